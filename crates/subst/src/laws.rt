@@ -1,5 +1,5 @@
-//! Laws of the definitions that contracts cite, each the contract of a function that does nothing, and
-//! [`escaped`], which one of the laws is about.
+//! Laws of the definitions that contracts cite. Each law is the contract of a function that does nothing. The
+//! module also has [`escaped`], the subject of one of the laws.
 
 pub use subst_foreign::escape::escaped;
 pub use subst_foreign::laws::{

@@ -1,16 +1,16 @@
 //! TOML whose strings are filled in after it was read, so that no value can break out of its string.
 //!
 //! [`substitute_string_values`] fills in a tree of `toml` in place. [`value_from_str`] and
-//! [`value_from_slice`] read a document first. [`from_str`] and [`from_slice`] then convert its tree into a
-//! type of the caller's, by `serde`. Keys are kept.
+//! [`value_from_slice`] read a document first. [`from_str`] and [`from_slice`] do the same, and then convert
+//! its tree into a type of the caller's, by `serde`. Keys are kept.
 //!
 //! [`fill_in`] and [`fill_in_slice`] fill in the strings of a document's text, and keep its comments, keys
 //! and layout. [`strings`] lists the strings of a document, and [`refusals_in`] the refused ones, with their
 //! spans.
 //!
-//! [`place_in`] returns the span of a text that spells a range of a string, and [`places_in`] the spans for
-//! many ranges. [`fill_in_by`] and [`refusals_by`] take a [`Fill`], a way to fill in a string; [`Filler`]
-//! fills in from a map.
+//! [`place_in`] returns the span that spells a range of a string, and [`places_in`] the spans for many
+//! ranges. [`fill_in_by`] and [`refusals_by`] take a [`Fill`], a way to fill in a string; [`Filler`] fills in
+//! from a map.
 //!
 //! [`report`] returns the report of an error for users: all refused strings with line, column and path, or
 //! the reader's message.

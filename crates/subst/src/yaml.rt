@@ -6,13 +6,13 @@
 //! [`strings`] lists the values that may change, with their spans, and [`refusals_in`] the refused ones, with
 //! their paths.
 //!
-//! [`place_in`] returns the span of a text that spells a range of a string, and [`places_in`] the spans for
-//! many ranges. A [`RangeFinder`] finds the spans for many strings.
+//! [`place_in`] returns the span that spells a range of a string, and [`places_in`] the spans for many
+//! ranges. A [`RangeFinder`] finds the spans for many strings.
 //!
 //! [`fill_in_by`] and [`refusals_by`] take a [`Fill`], a way to fill in a string; [`Filler`] fills in from a
 //! map.
 //!
-//! [`report`] describes the error of a call for people: all refused strings, with line, column and path, or
+//! [`report`] returns the report of an error for users: all refused strings with line, column and path, or
 //! the reader's message.
 //!
 //! There is no tree: the text is read token by token.

@@ -95,13 +95,13 @@ IsFirst Yaml look s it =
     × (yaml_listed.found_of first ≡ record { text = it.text; span = it.token; path = it.path })
     × (error_fault first.error ≡ Some it.fault)
 
--- the record has the kind of the fault of `it`, and the span in the text s of the fault's range in the string
+-- the record has the kind of the fault of `it`, and the span in s that spells the fault's range of the string
 pub record IsRecordIn (format : Format) (s : List ℕ) (it : Refused format) (reported : FaultRecord)
     : Type 0 where
   pub kind : reported.kind ≡ fault_number it.fault
   pub place : IsPlaceIn format s it.token (range_of (Some it.fault)) (range_at reported.position reported.length)
 
--- the record is that of a text s that is no document, or of the fault of the first refused string of s
+-- the record reports that the text s is no document, or the fault of the first refused string of s
 abbrev pub IsReported : Format → LookUp → List ℕ → FaultRecord → Type 0
 IsReported format look s reported =
     (IsNoDocument format s × (reported.kind ≡ 6))
@@ -147,7 +147,7 @@ IsRefusedWith (unfilled.Refused report) P = P report
 IsRefusedWith unfilled.NotConfirmed P = ⊥
 IsRefusedWith (unfilled.OutOfMemory e) P = ⊥
 
--- the result has the text s filled in, or the report of its refusal; other errors state nothing
+-- the result is the text s filled in, or the report of its refusal; about other errors nothing is stated
 abbrev pub IsResultOf : Format → LookUp → List ℕ → Result (String Global) Unfilled → Type 0
 IsResultOf format look s (Ok text) = IsFilledIn format look s (string_bytes text)
 IsResultOf format look s (Err e) = IfRefused e (IsRefusal format look s)

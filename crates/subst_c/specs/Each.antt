@@ -13,8 +13,8 @@ use Rattle.subst_c.specs.declared.pairs.Row.{Row}
 abbrev pub under_row : List ℕ → Row → Answer → Type 0
 under_row s row = Answers s (pair_value row.pairs.now)
 
--- the position at which each output ends, if the first begins at the position n, and each later one where the
--- last ends
+-- the position at which each output ends; the first begins at the position n, and each later one where the
+-- one before it ends
 abbrev pub ends_from : ℕ → List (List ℕ) → List ℕ
 ends_from n [] = []
 ends_from n (output ∷ outputs) = (n + length output) ∷ ends_from (n + length output) outputs
@@ -28,7 +28,7 @@ pub record AreOutputs (s : List ℕ) (rows : List Row) (bytes ends : List ℕ) :
   pub joined : bytes ≡ concat outputs
   pub ended : ends ≡ ends_from 0 outputs
 
--- The fault f is that of the source itself, with any rows, and the index i is 0. Or i is the index of the
--- first row with which the source is refused, for f.
+-- Either s is no sentence, f is its fault, and the index i is 0. Or i is the index of the first row with
+-- which s is refused, and f is the fault of that refusal.
 abbrev pub IsRefusedIn : List ℕ → List Row → ℕ → Fault → Type 0
 IsRefusedIn s rows i f = (HasFault 0 s f × (i ≡ 0)) ⊎ RefusesAt (under_row s) rows i f

@@ -1,4 +1,4 @@
--- Texts of other tools that are expanded by a style, for calls from C, and their faults.
+-- Expanding texts of other tools by a style, and the faults of such texts, for calls from C.
 use Rattle.std.specs.Prelude.{◌≡◌, ◌≢◌, ◌⊎◌, ℕ, Bool, true, false, ◌+◌, ◌<◌, ◌≤◌, List, [], length, Option, Some, None, Ok, Err, IsUtf8, if◌then◌else◌}
 use Rattle.std.specs.List.{slice_get}
 use Rattle.subst_foreign.specs.Foreign.{HasValue, IsKnown}
@@ -30,7 +30,7 @@ use Rattle.subst_c.specs.declared.style.StyleRecord.{StyleRecord}
 use Rattle.subst_c.specs.declared.style.StyleError.{StyleError}
 use Rattle.subst_c.specs.declared.style.StyleError.TheVariants as style_error
 
--- the numbers of the forms, of the names and of how an unset variable expands
+-- the numbers of a style's choices: its forms, its names, and how an unset variable expands
 abbrev pub forms_number : Forms → ℕ
 forms_number of.Own = 0
 forms_number of.Envsubst = 1
@@ -56,7 +56,8 @@ abbrev pub is_all : Choice → Bool
 is_all choice.All = true
 is_all _ = false
 
--- the name is chosen: any name, a name of the pairs `only`, or a name with a value or with an operator
+-- the name is chosen: `All` chooses any name, `Only` a name of the pairs `only`, and `Known` a name with a
+-- value or with an operator
 abbrev pub Has : Choice → (only given : List Pair) → (operated : Bool) → List ℕ → Type 0
 Has choice.All only given operated name = Unit {0}
 Has choice.Only only given operated name = HasValue (pair_value only) name
@@ -79,7 +80,7 @@ abbrev pub message_after : Option Operator → (end : ℕ) → ℕ
 message_after None end = 0
 message_after (Some op) end = if takes_message op then end + length (operator_text op) else 0
 
--- the record of a form that is refused, with the dollar or the brace that begins it
+-- the record of a form that is refused; its span is the dollar or the brace that begins the form
 abbrev pub fault_of_form : FormAt → StyleFault
 fault_of_form first = record {
   kind = 7;

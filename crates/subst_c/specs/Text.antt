@@ -1,4 +1,4 @@
--- The texts of a source's answer, in particular of its fault.
+-- Texts that describe the fault of a source, and sources and values that are UTF-8.
 use Rattle.std.specs.Prelude.{◌≡◌, ℕ, Bool, ◌&&◌, List, [], Some}
 use Rattle.std.specs.List.{list_all}
 use Rattle.std.specs.Str.{is_utf8}
@@ -16,7 +16,7 @@ abbrev pub IsFaultText : (Fault → List ℕ → Type 0) → Answer → List ℕ
 IsFaultText IsText (Gives x) text = text ≡ []
 IsFaultText IsText (Refuses f) text = IsText f text
 
--- `text` is the text, as by `IsFaultText`, of an answer for which `IsAnswer` holds
+-- `text` is, in the sense of `IsFaultText`, the text of an answer for which `IsAnswer` holds
 abbrev pub IsFaultTextOf : (Answer → Type 0) → (Fault → List ℕ → Type 0) → List ℕ → Type 0
 IsFaultTextOf IsAnswer IsText text = (a : Answer) × IsAnswer a × IsFaultText IsText a text
 

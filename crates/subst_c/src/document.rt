@@ -101,7 +101,8 @@ fn refused(
     }))
 }
 
-/// Returns the text of the error `e` after `path`, which is empty for a document that is a single string.
+/// Returns `path`, a colon and the text of the error `e`, or only that text if `path` is empty. The path is
+/// empty for a document that is a single string.
 ///
 /// # Errors
 ///

@@ -19,7 +19,7 @@ use subst_template::ByteTemplate;
 pub struct Outputs {
     /// The concatenated outputs.
     pub bytes: Vec<u8>,
-    /// The position in these bytes where each output ends.
+    /// The positions in `bytes` at which the outputs end.
     pub ends: Vec<usize>,
 }
 
@@ -52,7 +52,7 @@ impl Outputs {
 /// The first refusal of a source with several rows.
 #[derive(Drop)]
 pub struct Refusal {
-    /// The index of the refused row, or 0 if the source is refused with any row.
+    /// The index of the refused row, or 0 if the source is no sentence.
     pub row: usize,
     /// The error.
     pub error: Error,

@@ -16,9 +16,9 @@ use std::alloc::Global;
 use subst_template::ByteTemplate;
 
 /// Expands the template with the pairs into the front of the buffer. The output's length in bytes is written
-/// to `needed`, even if the buffer is shorter. Allocates only an index of the pairs, or searches the pairs if
-/// that fails. Out of memory means that the output's length overflows a `usize`. Unless the result is done,
-/// the buffer is unspecified.
+/// to `needed`, even if the buffer is shorter. At most an index of the pairs is allocated. If that allocation
+/// fails, the pairs are searched instead. The result `OUT_OF_MEMORY` means that the output's length overflows
+/// a `usize`. Unless the result is `DONE`, the buffer's contents are unspecified.
 pub fn expand_into_buffer(
     alloc: Global,
     template: &ByteTemplate,

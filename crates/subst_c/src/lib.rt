@@ -2,8 +2,8 @@
 //!
 //! `include/subst.h.in` declares the functions, and docs/C.md shows how to call them. Each function returns
 //! one of the numbers of [`outcome`]. No argument is null: if a length is 0, the header passes an address of
-//! its own. In a pair or a row, a pointer with the length 0 may be null, which is tested but not in the
-//! contracts. Arguments that are written overlap no other argument.
+//! its own. In a pair or a row, a pointer with the length 0 may be null. Tests cover this case, but the
+//! contracts don't. An argument that a function writes to overlaps no other argument.
 #![tactic(auto)]
 
 ghost use Rattle.std.specs.Prelude.{◌≡◌, ◌≢◌, ◌⊎◌, ◌↔◌, ◌+◌, ◌*◌, ◌<◌, ◌++◌, ℕ, List, drop, length, true, false};
@@ -122,9 +122,10 @@ pub extern "C" fn subst_text(
     subst_bytes(alloc, source, pairs, buffer, needed, fault)
 }
 
-/// Expands `source` with `pairs` straight into the front of the buffer. Unless the result is done, the buffer
-/// is unspecified. Allocates for the parse, and for an index of the pairs; without memory for the index, the
-/// pairs are searched. After the parse, out of memory means that the output's length overflows a `usize`.
+/// Expands `source` with `pairs` straight into the front of the buffer. Unless the result is `DONE`, the
+/// buffer's contents are unspecified. Memory is allocated for the parse, and for an index of the pairs. If
+/// there is no memory for the index, the pairs are searched instead. If the parse succeeds, the result
+/// `OUT_OF_MEMORY` means that the output's length overflows a `usize`.
 #[unsafe(no_mangle)]
 pub extern "C" fn subst_bytes_into(
     alloc: Global,
@@ -206,11 +207,12 @@ pub extern "C" fn subst_bytes_each(
         × IsPut (λ x. AreOutputs source.now rows.now x outputs_end) needed.new buffer.old buffer.new
         × (ends.new ≡ outputs_end ++ drop (length outputs_end) ends.old) }
 
-    // The fault is that of the source, or of the first row with which it is refused, whose index is `row`.
+    // Either the source is no sentence, the fault is that of the source, and `row` is 0. Or `row` is the
+    // index of the first row with which the source is refused, and the fault is that of this refusal.
     ensures fault { SetsFault (IsRecordOf (IsRefusedIn source.now rows.now row.new)) source.now
         result fault.old fault.new }
 
-    // The outputs are longer than the buffer, or there are fewer ends than outputs.
+    // The outputs are longer than the buffer, or `ends` has fewer elements than there are outputs.
     ensures too_small { result ≡ ROOM_TOO_SMALL
         → (x : List ℕ) × (outputs_end : List ℕ) × AreOutputs source.now rows.now x outputs_end
         × (needed.new ≡ length x)
@@ -247,7 +249,8 @@ pub extern "C" fn subst_json(
     ensures buffer { FillsBuffer (IsFilledIn Json (pair_value pairs.now) source.now)
         result needed.old needed.new buffer.old buffer.new }
 
-    // The source is no document, or the fault is that of the first refused string, with its span.
+    // The source is no document, or the fault is that of the first refused string, with the fault's span in
+    // the document.
     ensures fault { SetsFault (IsReported Json (pair_value pairs.now) source.now) source.now
         result fault.old fault.new }
 
@@ -278,7 +281,8 @@ pub extern "C" fn subst_toml(
     ensures buffer { FillsBuffer (IsFilledIn Toml (pair_value pairs.now) source.now)
         result needed.old needed.new buffer.old buffer.new }
 
-    // The source is no document, or the fault is that of the first refused string, with its span.
+    // The source is no document, or the fault is that of the first refused string, with the fault's span in
+    // the document.
     ensures fault { SetsFault (IsReported Toml (pair_value pairs.now) source.now) source.now
         result fault.old fault.new }
 
@@ -309,7 +313,8 @@ pub extern "C" fn subst_yaml(
     ensures buffer { FillsBuffer (IsFilledIn Yaml (pair_value pairs.now) source.now)
         result needed.old needed.new buffer.old buffer.new }
 
-    // The source is no document, or the fault is that of the first refused string, with its span.
+    // The source is no document, or the fault is that of the first refused string, with the fault's span in
+    // the document.
     ensures fault { SetsFault (IsReported Yaml (pair_value pairs.now) source.now) source.now
         result fault.old fault.new }
 
@@ -386,7 +391,7 @@ pub extern "C" fn subst_missing(
         (HasRecords source.now (λ t. all_missing 0 t (pair_value pairs.now)))
         result needed.old needed.new buffer.old buffer.new }
 
-    // No variable is missing exactly if the source has an output.
+    // The source has an output exactly if no variable is missing.
     ensures none { result ≡ DONE → (needed.new ≡ 0
         ↔ ((x : List ℕ) × Answers source.now (pair_value pairs.now) (Gives x))) }
     ensures fault { SetsFault (IsRecordOf (HasFault 0 source.now)) source.now
@@ -428,8 +433,8 @@ pub extern "C" fn subst_fault_text(
 }
 
 /// Writes to the front of the buffer the text of the fault that `subst_json` reports for `source` and
-/// `pairs`: the path of the refused string and its fault, or the reader's message. If there is no fault, the
-/// text is empty.
+/// `pairs`. The text has the path of the refused string and its fault; if the source isn't JSON, it is the
+/// JSON reader's message. If there is no fault, the text is empty.
 #[unsafe(no_mangle)]
 pub extern "C" fn subst_json_fault_text(
     alloc: Global,
@@ -547,7 +552,8 @@ pub extern "C" fn subst_place(
     ensures text { result ≢ NOT_UTF8 → IsUtf8 source.now }
     ensures not_text { result ≡ NOT_UTF8 → ¬ (IsUtf8 source.now) }
 
-    // The position is a character boundary if the result is `DONE`, and isn't if it is `NOT_A_BOUNDARY`.
+    // The position is a character boundary if the result is `DONE`. The position isn't one if the result is
+    // `NOT_A_BOUNDARY`.
     ensures boundary { result ≡ DONE → IsCharBoundary source.now position }
     ensures not_boundary { result ≡ NOT_A_BOUNDARY → ¬ (IsCharBoundary source.now position) }
     ensures others { result ≢ DONE → result ≢ NOT_UTF8 → result ≡ NOT_A_BOUNDARY }
@@ -601,7 +607,7 @@ pub extern "C" fn subst_text_by_style(
     needed: &mut usize,
     fault: &mut StyleFault,
 ) -> u32
-    // As for `subst_bytes_by_style`, and the output is UTF-8.
+    // The buffer and the fault are as for `subst_bytes_by_style`, and the output is UTF-8.
     ensures buffer { FillsBuffer (TextGivenByStyle style.now pairs.now source.now)
         result needed.old needed.new buffer.old buffer.new }
     ensures fault { SetsStyleFault style.now pairs.now source.now result fault.old fault.new }
@@ -676,8 +682,8 @@ pub extern "C" fn subst_with_only(
 }
 
 /// Writes a template for `source`, a text of a shell, to the front of the buffer. Variables have the forms
-/// that shells and Docker Compose read alike. Expand the template with pairs without empty values. If a form
-/// is refused, `form` is its number, and `position` the byte offset where it begins.
+/// that shells and Docker Compose read alike. Expand the template only with pairs whose values aren't empty.
+/// If a form is refused, `form` is its number, and `position` the byte offset where it begins.
 #[unsafe(no_mangle)]
 pub extern "C" fn subst_from_shell(
     alloc: Global,

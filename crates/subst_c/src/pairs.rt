@@ -124,7 +124,8 @@ pub fn index_of<'a>(alloc: Global, source: &[u8], pairs: &'a [Pair<'a>]) -> Opti
     index(alloc, pairs).ok()
 }
 
-/// Returns whether `source` has more than [`FEW`] dollars, so that it may have more placeholders than that.
+/// Returns whether `source` has more than [`FEW`] dollars. Otherwise it has at most [`FEW`] placeholders,
+/// since each begins with a dollar.
 fn has_many_placeholders(source: &[u8]) -> bool {
     memchr_iter(b'$', source).nth(FEW).is_some()
 }

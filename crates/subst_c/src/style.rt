@@ -33,7 +33,7 @@ use subst_foreign::{
 use subst_language::{NoEmpty, Variable, laws};
 use subst_template::ByteTemplate;
 
-/// A form of the text that is refused.
+/// A refused form of the text.
 pub const REFUSED_FORM: u32 = 7;
 
 /// A style for texts, as the numbers of its choices. `only` has the names for the choice [`Choice::Only`].
@@ -79,7 +79,7 @@ pub struct Choices {
 }
 
 impl StyleRecord<'_> {
-    /// Returns the choices that have the style's numbers, or `None` if a number is that of no choice.
+    /// Returns the choices that have the style's numbers, or `None` if a number belongs to no choice.
     fn choices(&self) -> Option<Choices>
         ensures { MatchOption result ((choices : Choices) → ¬ (AreOf self.now choices))
             (AreOf self.now) }
@@ -214,7 +214,7 @@ fn expand_text<'t, N: Names>(
     };
     let template = match ByteTemplate::from_slice(alloc, &source) {
         Ok(template) => template,
-        // A template is a sentence, so the error is out of memory.
+        // A template is a sentence, so only allocation can have failed.
         Err(_) => return Err(StyleError::OutOfMemory(AllocError)),
     };
     match expand(alloc, &template, style.forms, given) {
@@ -251,8 +251,8 @@ fn expand(
     }
 }
 
-/// Returns the variable of `text` at the index that `missing` has among the variables of `template`, the
-/// template for `text`. Returns `None` if `missing` isn't found.
+/// Returns the unset variable of `text`. Its index among the variables of `text` is that of `missing` among
+/// the variables of `template`, the template for `text`. Returns `None` if `missing` isn't found.
 ///
 /// # Errors
 ///

@@ -30,7 +30,7 @@ pub struct VariableRecord {
 }
 
 impl VariableRecord {
-    /// Returns the record of a name at a byte offset, with the number of a kind.
+    /// Returns the record of a variable: the number of its kind, and the offset and length of its name.
     fn new(kind: u32, position: usize, name: &str) -> Self
         ensures { result ≡ record { kind = kind; position = position; length = length name.now } }
     {

@@ -49,15 +49,15 @@ IsNoDocument Json text = ¬ (json.ReadsAsTree text (λ _. ⊤))
 IsNoDocument Toml text = ¬ (toml.ReadsAsTree text (λ _. ⊤))
 IsNoDocument Yaml text = ¬ (yaml.ReadsAs text (λ _. ⊤))
 
--- the cause is that a text isn't a document, which requires `IsNone`, or that the output isn't confirmed
+-- the cause is that a text isn't a document, and `IsNone` holds; or that the output isn't confirmed
 abbrev pub IsUnread : Type 0 → Cause → Type 0
 IsUnread IsNone (Mistake mistake) = IsNone
 IsUnread IsNone (NotADocument message) = IsNone
 IsUnread IsNone NotConfirmed = ⊤
 IsUnread IsNone _ = ⊥
 
--- the reason why a text isn't filled in: the text isn't a document, which requires `IsNone`; the output isn't
--- confirmed; or a string is refused, which requires `IsRefused`
+-- the reason why a text isn't filled in: the text isn't a document, and `IsNone` holds; the output isn't
+-- confirmed; or a string is refused, and `IsRefused` holds
 abbrev pub IsUnfilled : Type 0 → Type 0 → Unfilled → Type 0
 IsUnfilled IsNone IsRefused (Unread range cause) = IsUnread IsNone cause
 IsUnfilled IsNone IsRefused Refused = IsRefused
@@ -71,7 +71,8 @@ RefusesString Toml filler text =
 RefusesString Yaml filler text = (f : library.Fault)
     × yaml.ReadsAs text (λ es. RefusesFirst (AnswersBy filler) (yaml_strings text es) f)
 
--- the first bytes are a token of the format, or a scalar of YAML, that spells the second bytes as a string
+-- the first list of bytes is a token of the format, or a scalar of YAML, that spells the second list as a
+-- string
 abbrev pub IsToken : Format → List ℕ → List ℕ → Type 0
 IsToken Json = IsStringToken
 IsToken Toml = IsQuotedToken
@@ -130,8 +131,8 @@ AreFound Toml text token ranges places = toml_pieces.ArePlacesIn text token rang
     × IsPlaceIn text token range place)
 AreFound Yaml text token ranges places = yaml_places.ArePlacesIn text token ranges places
 
--- `places` are the spans in `text` that spell `ranges` of a string: the spans that the library finds, or for
--- each range `token`, the span of the string's token
+-- `places` are the spans in `text` that spell `ranges` of a string: those that the library finds, or the
+-- token's span `token` for each range
 abbrev pub ArePlaces : Format → List ℕ → Range ℕ → List (Range ℕ) → List (Range ℕ) → Type 0
 ArePlaces format text token ranges places =
     AreFound format text token ranges places ⊎ (places ≡ map (λ _. token) ranges)

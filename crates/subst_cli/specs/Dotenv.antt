@@ -1,5 +1,6 @@
--- The settings of .env files: each line sets a name to a value. The value is expanded with the entries
--- `above`, of higher precedence than .env files, and then with the entries `before`, of earlier lines.
+-- The settings of .env files: each line sets a name to a value. The value's variables are looked up in
+-- `above`, the entries of higher precedence than .env files, and then in `before`, the entries of earlier
+-- lines.
 use denote.Ref.{Bor}
 use Rattle.std.specs.Global.{Global}
 use Rattle.std.specs.HashMap.{HashMap, get_by_text}
@@ -42,8 +43,8 @@ abbrev pub IsValueOf : LookUp → (s : List ℕ) → Given → Type 0
 IsValueOf look s given = (items : text.Text) × text.IsText shell false items [] × (s ≡ text.spelling items)
     × (text.text_value Shell missing.Nothing items look ≡ given)
 
--- the value of `name` for the variables in a line: that of the first entry of this name in `above`, or else
--- of the last one in `before`
+-- the value of a line's variable `name`: that of the name's first entry in `above`, or else of its last entry
+-- in `before`
 abbrev pub look_up_after : (above before : List Entry) → LookUp
 look_up_after above before name = option_or (look_up_in above name) (look_up_in (reverse before) name)
 
@@ -103,8 +104,9 @@ pub data Stops (above : List Entry) : (before : List Entry) → (s : List ℕ) �
       → line_in s ≡ Sets name value later → Expands above before value x
       → Stops above (before ++ setting name x ∷ []) later cause → Stops above before s cause
 
--- Each outcome of the text `later` after the entries `entries` is an outcome of the text `s` after the
--- entries `before`. An outcome is the entries after all lines, or the cause of a refusal.
+-- Each outcome of reading `later`, starting with the entries `entries`, is also an outcome of reading `s`,
+-- starting with the entries `before`. An outcome is the list of entries after all lines, or the cause of a
+-- refusal.
 pub record GoesOn (above before : List Entry) (s : List ℕ) (entries : List Entry) (later : Bor (List ℕ))
     : Type 0 where
   pub leaves : (after : List Entry) → Leaves above entries later.now after → Leaves above before s after

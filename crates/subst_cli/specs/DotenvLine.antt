@@ -66,21 +66,21 @@ byte_text quote b s = if b == dollar && is_text quote s then dollars else b ∷ 
 abbrev pub begins_comment : List ℕ → Bool
 begins_comment s = begins_with 35 s
 
--- the byte `b`, before the bytes `s`, ends a value: its closing quote, or without quotes a blank before a
--- comment
+-- the byte `b` before the bytes `s` ends a value: it is the closing quote, or, without quotes, a blank before
+-- a comment
 abbrev pub closes : Quote → ℕ → List ℕ → Bool
 closes Bare b s = is_blank b && begins_comment s
 closes Single b s = b == 39
 closes Double b s = b == 34
 
--- the value at the end of a text: an empty value without quotes, or none in quotes, since the closing quote
--- is missing
+-- the value if the text ends here: outside quotes the empty value; inside quotes none, since the closing
+-- quote is missing
 abbrev pub at_end : Quote → Option Text
 at_end Bare = Some (record { text = []; rest = [] })
 at_end _ = None
 
--- the value `after_pair` with the text `pair` of two bytes before it, if there is such a text; or else the
--- value `after_byte` with the text `bytes` of one byte before it
+-- `pair`, the text of two bytes, prepended to the value `after_pair`; without a `pair`, the text `bytes` of
+-- one byte prepended to the value `after_byte`
 abbrev pub joined : Option (List ℕ) → List ℕ → Option Text → Option Text → Option Text
 joined (Some pair) bytes after_pair after_byte = before pair after_pair
 joined None bytes after_pair after_byte = before bytes after_byte
@@ -108,7 +108,8 @@ line_of (read.Nothing rest) = Nothing rest.now
 line_of (read.Sets name text rest) = Sets name.now text.items rest.now
 line_of (read.Wrong why) = Wrong
 
--- the least length of a text that begins with the line: more than the length of the text after the line
+-- A lower bound of the length of a text that begins with the line. It is one more than the length of the text
+-- after the line, or 0 for a wrong line
 abbrev pub least_len : Line → ℕ
 least_len (Nothing rest) = length rest + 1
 least_len (Sets name text rest) = length rest + 1
@@ -149,13 +150,13 @@ quoted_line name None = Wrong
 quoted_line name (Some t) =
     if is_ended (first_line t.rest) then Sets name t.text (later_lines t.rest) else Wrong
 
--- the line that sets a name, by the quotes of the value and the text `s` after `=`
+-- the line that sets a name, parsed from the text `s` after `=`, for a value in these quotes
 abbrev pub value_line : Quote → (name s : List ℕ) → Line
 value_line Bare name s = bare_line name (later_lines s) (text_in Bare (first_line s))
 value_line quote name s = quoted_line name (text_in quote (drop 1 (after_blanks s)))
 
--- the line that sets a name, by the text `s` after the name and its blanks; a wrong line if the text doesn't
--- begin with `=`
+-- the line that sets a name, parsed from the text `s` after the name and its blanks; a wrong line if `s`
+-- doesn't begin with `=`
 abbrev pub line_after : (name s : List ℕ) → Line
 line_after name [] = Wrong
 line_after name (b ∷ s) = if b == 61 then value_line (opening (after_blanks s)) name s else Wrong
@@ -164,7 +165,8 @@ line_after name (b ∷ s) = if b == 61 then value_line (opening (after_blanks s)
 abbrev pub name_len : List ℕ → ℕ
 name_len s = position_or_len (λ b. not (is_name_byte b)) s
 
--- the first line of a text, from the line's name on; a wrong line if the text begins with no variable name
+-- the first line of a text, parsed from the line's name on; a wrong line if the text begins with no variable
+-- name
 abbrev pub named_line : List ℕ → Line
 named_line s =
     if is_spelled (take (name_len s) s)
@@ -179,7 +181,8 @@ abbrev pub begins_blank : List ℕ → Bool
 begins_blank [] = false
 begins_blank (b ∷ s) = is_blank b
 
--- the text without `export` and the blanks after it; without a blank, `export` is part of a name
+-- the text without a leading `export` and the blanks after it; if no blank follows, `export` is part of a
+-- name
 abbrev pub without_export : List ℕ → List ℕ
 without_export s =
     if bytes_eq (take 6 s) export && begins_blank (drop 6 s) then after_blanks (drop 6 s) else s

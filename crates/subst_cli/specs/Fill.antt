@@ -1,4 +1,5 @@
--- The outputs of sources: a source is a template itself, or is converted into one, by its placeholders.
+-- The outputs of sources. Depending on its placeholders, a source is a template itself, or is converted into
+-- one.
 use denote.Ref.{Bor}
 use Rattle.std.specs.Prelude.{◌≡◌, ◌⊎◌, ◌==◌, ◌||◌, ◌++◌, ℕ, Bool, true, false, List, [], ◌∷◌, IsUtf8, Option, Some, None, if◌then◌else◌}
 use Rattle.std.specs.List.{All, Any}
@@ -65,8 +66,8 @@ has_of (Only names starts) entries =
     λ operated name. IsListed names.names.keys name ⊎ BeginsWithOne starts.items name
 has_of Known entries = or_operated (IsKnown (look_up_in entries) (is_unreadable entries))
 
--- the grammar of the chosen placeholders; the known names are those set in `variables`, or in `grammar_of`
--- those of the entries
+-- the grammar of the chosen placeholders; for `grammar_in` the known names are those set in `variables`, and
+-- for `grammar_of` those of the entries
 abbrev pub grammar_in : ChosenForms → Option (Bor Variables) → Grammar
 grammar_in chosen variables = grammar chosen.forms (all_of chosen.names) (has_in chosen.names variables)
 
@@ -83,8 +84,8 @@ abbrev pub forms_of : Placeholders → Option Forms
 forms_of Own = None
 forms_of (Chosen chosen) = Some chosen.forms
 
--- the look-up for the names in a template, from the look-up `look` of the variables; the template was
--- converted from a text of these forms, or is the source itself if there are none
+-- the look-up for the names in a template, from the look-up `look` of the variables. The template was
+-- converted from a text of these forms, or, without forms, is the source itself
 abbrev pub look_for : Option Forms → LookUp → LookUp
 look_for None look = look
 look_for (Some forms) look = seen_by forms look
@@ -95,8 +96,8 @@ look_up_of (ByName values) = value_under values.now
 look_up_of (NonEmpty filled) = without_empty (value_under filled.map.now)
 look_up_of (ByQuestion shell) = by_question (value_under shell.map.now)
 
--- the name of a variable, in a name that a template looks up: in the template of a shell-style text, the
--- bytes after a leading digit 1, 2 or 3, and otherwise the whole name
+-- the name of the variable for which a template looks up this name. In the template of a shell-style text, it
+-- is the bytes after a leading digit 1, 2 or 3; otherwise it is the whole name
 abbrev pub looked_up_name : Option Forms → List ℕ → List ℕ
 looked_up_name (Some of.Shell) (b ∷ name) =
     if b == value_of || b == is_missing || b == is_empty then name else b ∷ name
@@ -106,8 +107,8 @@ looked_up_name _ name = name
 abbrev pub Agrees : List Entry → LookUp → Type 0
 Agrees entries look = (name : List ℕ) → ¬ (IsUnreadable entries name) → look name ≡ look_up_in entries name
 
--- the template expands to the output with the values of the entries, whatever the values that aren't UTF-8
--- are taken to be
+-- the template expands to the output with the values of the entries, no matter what is taken for a value that
+-- isn't UTF-8
 abbrev pub GivesBy : Option Forms → List Entry → List ℕ → List ℕ → Type 0
 GivesBy forms entries template output =
     (look : LookUp) → Agrees entries look → Answers template (look_for forms look) (Gives output)
@@ -135,7 +136,7 @@ IsDocumentOutput Json Becomes source output = json.IsFilledDocument Becomes sour
 IsDocumentOutput Toml Becomes source output = toml.IsFilledDocument Becomes source output
 IsDocumentOutput Yaml Becomes source output = yaml.IsFilledDocument (GivesAs Becomes) source output
 
--- `x` is the output of `s`, the bytes of a source that are filled in, in this format
+-- `x` is the output of `s` in this format; `s` are those bytes of a source that are filled in
 abbrev pub IsFilled : InputFormat → Placeholders → List Entry → List ℕ → List ℕ → Type 0
 IsFilled Text placeholders entries s x = IsUtf8 s × GivesFor placeholders entries s x
 IsFilled Bytes placeholders entries s x = GivesFor placeholders entries s x

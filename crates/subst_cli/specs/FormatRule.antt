@@ -1,4 +1,4 @@
--- The format of a source: one for all, or each by the ending of its path.
+-- The format of a source: the same for all sources, or by the ending of the source's path.
 use Rattle.std.specs.Prelude.{◌||◌, ◌-◌, ℕ, List, codes, if◌then◌else◌, length, nat_eq, string_bytes, take}
 use Rattle.std.specs.List.{ends_with}
 use Rattle.subst_cli.specs.declared.document.format.Format.TheVariants.{Json, Toml, Yaml}

@@ -47,7 +47,7 @@ IsUnreadable entries name = IsTrue (is_unreadable entries name)
 abbrev pub IsKnown : LookUp → (List ℕ → Bool) → List ℕ → Type 0
 IsKnown look unreadable name = IsTrue (is_some (look name) || unreadable name)
 
--- the name is a variable name
+-- the name is a variable name: one or more ASCII letters, digits or underscores
 abbrev pub is_spelled : List ℕ → Bool
 is_spelled [] = false
 is_spelled (b ∷ name) = list_all is_name_byte (b ∷ name)
@@ -94,7 +94,7 @@ word_byte b = if b == 39 then 39 ∷ 92 ∷ 39 ∷ 39 ∷ [] else b ∷ []
 abbrev pub word : List ℕ → List ℕ
 word text = 39 ∷ flat_map word_byte text ++ 39 ∷ []
 
--- the text, escaped for a language: for JSON as between the quotes of a string
+-- the text, escaped for a language; for JSON, without the quotes around a string
 abbrev pub escaped_by : Escape → List ℕ → List ℕ
 escaped_by Nothing text = text
 escaped_by Json text = escape text
@@ -108,7 +108,7 @@ escaped kind entry = record { name = entry.name; value = option_map (escaped_by 
 abbrev pub has_unreadable : Variables → List ℕ → Bool
 has_unreadable variables name = is_some (value_under variables.unreadable name)
 
--- the name is set in the variables, if there are any
+-- there are variables, and the name is set in them
 abbrev pub IsKnownBy : Option (Bor Variables) → List ℕ → Type 0
 IsKnownBy None name = ⊥
 IsKnownBy (Some variables) name =

@@ -17,14 +17,14 @@ use Rattle.subst_foreign.specs.declared.forms.Forms.{Forms}
 use Rattle.subst_foreign.specs.declared.variables.TextVariable.{TextVariable as FoundVariable}
 use Rattle.subst_language.specs.declared.variable.Variable.{Variable as TemplateVariable}
 
--- the variable of the last of these pairs whose position is `at`
+-- the variable of the last pair that has the position `at`, if there is one
 abbrev pub last_at : List (ℕ × VariableAt) → ℕ → Option VariableAt
 last_at [] at = None
 last_at (pair ∷ pairs) at = option_or (last_at pairs at) (if pair.0 == at then Some pair.1 else None)
 
--- The variable of a text that has the same index as the template's variable at the position `at`. `positions`
--- are those of the template's variables, `variables` are the text's. No two variables of a template have the
--- same position.
+-- The text's variable with the same index as the template's variable at the position `at`. `positions` are
+-- the positions of the template's variables, and `variables` are the text's variables. No two variables of a
+-- template have the same position.
 abbrev pub counterpart : List ℕ → List VariableAt → ℕ → Option VariableAt
 counterpart positions variables at = last_at (zip positions variables) at
 
@@ -32,8 +32,8 @@ counterpart positions variables at = last_at (zip positions variables) at
 abbrev pub positions_of : Tree → List ℕ
 positions_of t = map (λ v. v.position) (variables_of 0 t)
 
--- the second cause is the first, a template's, mapped back to the text: a missing variable has the name of
--- the variable in the text, and any other cause is unchanged
+-- the second cause is the first one, mapped back from a template to the text. A missing variable has the name
+-- that it has in the text. Any other cause is unchanged
 abbrev pub IsMappedCause : Forms → Cause → Cause → Type 0
 IsMappedCause forms (Refused (error.NoSuchVariable e)) (Unset mapped) =
     string_bytes mapped.name ≡ looked_up_name (Some forms) (string_bytes e.name)
@@ -63,7 +63,7 @@ AreCounterparts g s template counterparts = (t : Tree) → Spells t template →
     × ((at : ℕ) → counterpart_at counterparts at ≡ counterpart (positions_of t) variables at)
 
 -- `counterparts` has the text's variable of each pair, by the position of the template's variable; of pairs
--- with the same position, the last one's
+-- with the same position, the last one wins
 abbrev pub ArePaired : {S : Type 0} → List (TemplateVariable × FoundVariable) → HashMap ℕ FoundVariable S → Type 0
 ArePaired pairs counterparts = (at : ℕ) → counterpart_at counterparts at
     ≡ last_at (map (λ pair. (pair.0.position, variable_of pair.1)) pairs) at
@@ -74,6 +74,7 @@ abbrev pub AreMapped : {S : Type 0} → Forms → HashMap ℕ FoundVariable S �
 AreMapped forms counterparts faults mapped =
     AllZip (λ x it. IsMappedAt forms (counterpart_at counterparts x.range.start) x it) faults mapped
 
--- `it` is the fault `x` of a template, mapped back to the variable `found` of the text, if there is one
+-- `it` is the fault `x` of a template, mapped back to the text's variable `found`, or unmoved if there is no
+-- such variable
 abbrev pub IsMappedBy : Forms → Option FoundVariable → Fault → Fault → Type 0
 IsMappedBy forms found x it = IsMappedAt forms (option_map variable_of found) x it

@@ -17,12 +17,12 @@ has_mark bytes = bytes_eq (take 3 bytes) byte_order_mark
 abbrev pub mark_in : List ℕ → List ℕ
 mark_in bytes = if has_mark bytes then byte_order_mark else []
 
--- the bytes after the byte order mark that they begin with, or all bytes
+-- the bytes without a byte order mark at their start
 abbrev pub after_mark : List ℕ → List ℕ
 after_mark bytes = if has_mark bytes then drop 3 bytes else bytes
 
--- the bytes of the source `s` that are copied, before those that are filled in: the byte order mark of JSON
--- and YAML
+-- the bytes at the start of the source `s` that are copied and not filled in: the byte order mark of JSON and
+-- YAML, or else none
 abbrev pub kept_of : InputFormat → List ℕ → List ℕ
 kept_of (Document Json) s = mark_in s
 kept_of (Document Yaml) s = mark_in s

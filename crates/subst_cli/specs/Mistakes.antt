@@ -1,4 +1,4 @@
--- Common mistakes in JSON and TOML, by the bytes at which the reader stopped.
+-- Common mistakes in JSON and TOML, recognized by the text or by the reader's message.
 use Rattle.std.specs.Prelude.{ℕ, zero, suc, ◌==◌, ◌+◌, ◌-◌, Bool, true, false, not, ◌&&◌, ◌||◌, List, [], ◌∷◌, codes, drop, get_or, length, take, Option, Some, None, is_some, option_map, if◌then◌else◌, string_bytes}
 use Rattle.std.specs.Char.{is_ascii_hexdigit, is_ascii_whitespace}
 use Rattle.std.specs.Int.{is_in_range}
@@ -16,7 +16,7 @@ use Rattle.subst_cli.specs.declared.document.mistake.Part.TheVariants.{Outside, 
 use Rattle.subst_cli.specs.declared.document.mistake.TheConstants.{LEVELS, TOML_LEVELS}
 use Rattle.subst_cli.specs.declared.fault.Cause.TheVariants as cause
 
--- the part of JSON after the byte `b`, if `b` is in this part: outside of strings, or in a string
+-- the part of JSON that the byte after `b` is in, if `b` is in this part
 abbrev pub part_after : Part → ℕ → Part
 part_after Outside b = if b == 34 then Inside else Outside
 part_after Inside b = if b == 34 then Outside else if b == 92 then Escaped else Inside
@@ -34,7 +34,7 @@ does_close Outside b = b == 93 || b == 125
 does_close Inside b = false
 does_close Escaped b = false
 
--- the index of the first bracket that opens one level too many, in bytes that begin at index `at`, in `part`,
+-- the index of the first bracket that opens one level too many; the bytes begin at index `at`, in `part` and
 -- inside `depth` levels
 abbrev pub bracket_past : ℕ → Part → ℕ → List ℕ → Option ℕ
 bracket_past at part depth [] = None
@@ -82,18 +82,18 @@ is_without (Some Second) next = true
 abbrev pub is_lone_at : List ℕ → Bool
 is_lone_at bs = is_without (half_at bs) (half_at (drop 6 bs))
 
--- the number of bytes to skip after the backslash of an escape: 11, up to the end of a surrogate pair, if the
--- escape is that of a first half, or else 1
+-- the number of bytes to skip after the backslash of an escape: 1, but 11 for a first half, to skip the whole
+-- surrogate pair
 abbrev pub after_half : Option SurrogateHalf → ℕ
 after_half None = 1
 after_half (Some First) = 11
 after_half (Some Second) = 1
 
--- the number of bytes to skip after the first one: those of the escape or pair that the bytes begin with
+-- the number of bytes to skip after the first: 11 for a surrogate pair, 1 for another escape, or else 0
 abbrev pub after_first : List ℕ → ℕ
 after_first bs = if get_or bs 0 0 == 92 then after_half (half_at bs) else 0
 
--- the index of the first lone surrogate, half a pair without the other half, in the bytes of a string from
+-- the index of the first lone surrogate (half a pair without the other half) in the bytes of a string from
 -- index `at` on; the first `to_skip` bytes are skipped
 abbrev pub lone_at : ℕ → ℕ → List ℕ → Option ℕ
 lone_at at to_skip [] = None
@@ -107,8 +107,8 @@ lone_at at zero (b ∷ bs) =
 abbrev pub begins_comment : List ℕ → Bool
 begins_comment bs = (get_or bs 0 0 == 47) && (get_or bs 1 0 == 47 || get_or bs 1 0 == 42)
 
--- the mistake between `before` and `rest`, where the reader stopped, and its offset: a comment, a variable, a
--- bracket after a comma, text after a document, or half a surrogate pair
+-- the mistake for which the reader stopped between `before` and `rest`, with its offset; the mistake is a
+-- comment, a variable, a bracket after a comma, text after a document, or half a surrogate pair
 abbrev pub mistake_in : List ℕ → List ℕ → Bool → Option (Mistake × ℕ)
 mistake_in before rest is_document =
     let first = get_or rest 0 0 in
@@ -119,7 +119,7 @@ mistake_in before rest is_document =
     else if first == 34 then option_map (λ half. (LoneSurrogate, length before + half)) (lone_at 0 1 rest)
     else None
 
--- nesting too deep at this bracket, if there is one, or else this mistake
+-- the mistake `TooDeep` at the bracket, or this mistake if there is no bracket
 abbrev pub or_bracket : Option (Mistake × ℕ) → Option ℕ → Option (Mistake × ℕ)
 or_bracket mistake None = mistake
 or_bracket mistake (Some bracket) = Some (TooDeep LEVELS, bracket)
@@ -130,7 +130,7 @@ abbrev pub mistake_at : List ℕ → List ℕ → Bool → Option (Mistake × �
 mistake_at before rest is_document =
     or_bracket (mistake_in before rest is_document) (bracket_past 0 Outside 0 before)
 
--- the mistake in the text and its offset, if one is known and the reader's message has no reason
+-- the mistake in the text, with its offset, if the mistake is known and the reader's message states no reason
 abbrev pub mistake_of : List ℕ → ReaderStop → Option (Mistake × ℕ)
 mistake_of text stop =
     let before = take stop.offset text in
@@ -143,7 +143,8 @@ or_message stop (Some (mistake, offset)) = Unread (record { start = offset; end 
 or_message stop None =
     Unread (record { start = stop.offset; end = stop.offset }) (cause.NotADocument stop.message)
 
--- The reason why a text isn't JSON, by its reader's stop.
+-- the reason why a text isn't JSON, if its reader stopped with `stop`: a known mistake, or else the stop's
+-- message
 abbrev pub unread_at : List ℕ → ReaderStop → Unfilled
 unread_at text stop = or_message stop (mistake_of text stop)
 

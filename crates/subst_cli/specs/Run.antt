@@ -23,13 +23,13 @@ use Rattle.subst_cli.specs.declared.values_file.ValuesSource.TheVariants.{Lines,
 abbrev pub bytes_of : Source → List ℕ
 bytes_of source = source.bytes.items
 
--- the entries of the options and of `read` that have higher precedence than .env files; the environment's
--- only if the options use the environment
+-- the entries of the options and of `read` that have higher precedence than .env files; those of the
+-- environment only if the options use it
 abbrev pub above_for : Options → Layers → List Entry
 above_for options read = above (entries_of_pairs options.pairs.items) (entries_of read.lines.items)
     (if options.environment then environment_of (map vec_items read.environment.items) else [])
 
--- the entries, without those with an empty value if the options remove them
+-- the entries; if the options treat empty values as unset, only those whose value isn't empty
 abbrev pub kept_for : Options → List Entry → List Entry
 kept_for options all = if options.no_empty then filter (λ entry. not (is_empty entry)) all else all
 
@@ -39,7 +39,7 @@ entries_for options read = map (escaped options.escape) (kept_for options
     (in_order (above_for options read) (entries_of read.dotenv.items)
     (entries_of read.defaults.items ++ entries_of_pairs options.defaults.items)))
 
--- `it` is a fault of `s`, the bytes of a source that are filled in, in this format
+-- `it` is a fault in this format of `s`, the bytes of a source that are filled in
 abbrev pub IsFaultIn : InputFormat → Placeholders → List Entry → List ℕ → Fault → Type 0
 IsFaultIn Text placeholders entries s it = IsNoText s it ⊎ IsFaultOf placeholders entries s it
 IsFaultIn Bytes placeholders entries s it = IsFaultOf placeholders entries s it

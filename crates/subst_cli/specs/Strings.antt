@@ -12,8 +12,8 @@ use Rattle.subst_cli.specs.declared.fault.Fault.{Fault}
 abbrev pub FillsFrom : StringFiller → List Entry → Type 0
 FillsFrom filler entries = IsSomeAnd filler.variables (λ variables. AreVariablesOf variables.now entries)
 
--- the filler's answer for the string `s` is right: `x` is the output, which without variables is `s` itself,
--- or `s` has a fault
+-- the filler's answer for the string `s` is right: the output `x` is that of `s`, or `s` itself if the filler
+-- has no variables; for a refusal, `s` has a fault
 abbrev pub AnswersBy : StringFiller → List ℕ → Answer → Type 0
 AnswersBy filler s (Gives x) = IfNone filler.variables (x ≡ s)
     × ((entries : List Entry) → FillsFrom filler entries → GivesFor filler.placeholders.now entries s x)

@@ -57,7 +57,7 @@ abbrev pub entry_or_wrong : Option Entry → Line
 entry_or_wrong None = Wrong
 entry_or_wrong (Some entry) = Sets entry
 
--- the parsed line, of a line without leading blanks
+-- a line without leading blanks, parsed
 abbrev pub parsed_after_blanks : List ℕ → Line
 parsed_after_blanks line = if is_ignored line then Nothing else entry_or_wrong (entry_in line)
 
@@ -65,7 +65,7 @@ parsed_after_blanks line = if is_ignored line then Nothing else entry_or_wrong (
 abbrev pub parsed : List ℕ → Line
 parsed line = parsed_after_blanks (after_blanks (without_return line))
 
--- `entries` followed by `later`, the entries of later lines or files, or none if `later` is none
+-- `entries` followed by `later`, which are the entries of later lines or files; none if `later` is none
 abbrev pub before : List Entry → Option (List Entry) → Option (List Entry)
 before entries later = option_map (λ more. entries ++ more) later
 

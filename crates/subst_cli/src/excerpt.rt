@@ -12,7 +12,8 @@ const WIDEST: usize = 60;
 /// The most bytes of a line that are read before a fault, and from the fault on.
 const AROUND: usize = 512;
 
-/// The most bytes read before a fault, and from the fault on, if each takes a column. It exceeds [`WIDEST`].
+/// The most bytes read before a fault, and from the fault on, if each byte takes a column. This number
+/// exceeds [`WIDEST`].
 const NEAR: usize = 64;
 
 /// The mark that replaces the part of a text that is cut off.
@@ -102,7 +103,7 @@ fn is_at_line_end(source: &[u8], offset: Option<usize>) -> bool {
 #[derive(Drop)]
 struct Piece {
     text: String,
-    /// Whether the line is cut at the piece's end that is away from the fault.
+    /// Whether the line goes on past this piece, on the side away from the fault.
     is_cut: bool,
 }
 
@@ -112,7 +113,8 @@ impl Piece {
         columns(&self.text).saturating_add(usize::from(self.is_cut))
     }
 
-    /// Returns the text's width if the piece may have `columns` columns, and whether the piece is cut then.
+    /// Returns the limit of the text's width for a piece of at most `columns` columns, and whether that piece
+    /// is cut.
     fn fit(&self, columns: usize) -> (usize, bool) {
         if self.width() <= columns {
             (columns, self.is_cut)
@@ -122,7 +124,8 @@ impl Piece {
     }
 }
 
-/// Returns the excerpt of a line: the piece `before` the fault and the rest, `after`, with `carets` carets.
+/// Returns the excerpt of a line. `before` is the piece before the fault, `after` the piece from the fault
+/// on, and `carets` the fault's width in columns.
 fn underlined(
     alloc: Global,
     before: &Piece,
@@ -180,7 +183,8 @@ fn last_columns(text: &str, columns: usize) -> &str {
     ""
 }
 
-/// Cuts a text to `columns` if it is wider, and then appends the mark of a cut.
+/// Cuts a text to `columns` columns and appends the mark of a cut. A text that isn't wider is returned
+/// unchanged.
 pub(crate) fn cut(alloc: Global, text: String, columns: usize) -> Result<String, AllocError> {
     let start = first_columns(&text, columns);
     if start.len() < text.len() {

@@ -27,27 +27,27 @@ pub struct Fault {
 pub enum Cause {
     /// The library refuses the template with this error.
     Refused(Error),
-    /// A required variable of another tool's text is unset, or empty after `:?`.
+    /// A required variable of another tool's text is unset, or has `:?` and is empty.
     Unset(Unset),
     /// The environment's value of the variable with this name isn't UTF-8.
     Unreadable(String),
     /// The source isn't UTF-8.
     NotUtf8,
-    /// The source isn't a document of its format, with the reader's message.
+    /// The source isn't a document of its format, as this message of the format's reader explains.
     NotADocument(String),
     /// The source isn't a document of its format because of this mistake.
     Mistake(Mistake),
     /// The document's output, or the positions of its strings, couldn't be confirmed to be right.
     NotConfirmed,
-    /// A line of a values file or a `.env` file is wrong, with the message.
+    /// A line of a values file or a `.env` file is wrong, as this message explains.
     NoVariable(&'static str),
     /// A form of another tool's text is refused.
     Form(ShellForm),
-    /// A default looks like one of another tool, with the message.
+    /// A default looks like another tool's, as this message explains.
     Default(String),
 }
 
-/// A required variable of another tool's text that is unset, or empty after `:?`.
+/// A required variable of another tool's text that is unset, or that has `:?` and is empty.
 #[derive(Drop)]
 pub struct Unset {
     /// The name.
@@ -98,7 +98,7 @@ impl fmt::Display for Cause {
     }
 }
 
-/// Returns a list of one fault, which isn't in a string of a document.
+/// Returns a list of one fault, with an empty path.
 ///
 /// # Errors
 ///

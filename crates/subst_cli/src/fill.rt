@@ -20,7 +20,8 @@ pub(crate) enum LookUpValues<'m, 'v> {
     ByName(&'m Values<'v>),
     /// The value of each name, unless it is empty.
     NonEmpty(NoEmpty<'m, Values<'v>>),
-    /// The answers for a shell-style text's template, whose names may begin with a digit: see [`ShellMap`].
+    /// The values for a shell-style text's template. A name that begins with 1, 2 or 3 is a question about a
+    /// variable: see [`ShellMap`].
     ByQuestion(ShellMap<'m, Values<'v>>),
 }
 

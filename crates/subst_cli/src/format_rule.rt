@@ -28,7 +28,7 @@ impl FormatRule<'_> {
     }
 }
 
-/// Returns the format of a path's ending, or text for any other ending. The case of letters matters.
+/// Returns the format that a path's ending names, or text for an unknown ending. The case of letters matters.
 fn format_by_ending(path: &[u8]) -> InputFormat
     ensures { result ≡ rule.format_by_ending path.now }
 {

@@ -55,7 +55,8 @@ fn is_missing(fault: &Fault) -> bool {
     )
 }
 
-/// Returns whether a fault is a dollar without a name, or an invalid escape, as in texts of other tools.
+/// Returns whether a fault is a dollar without a name or an invalid escape. Such faults suggest a text of
+/// another tool.
 fn is_of_a_special_byte(fault: &Fault) -> bool {
     matches!(
         fault.cause,
@@ -63,7 +64,8 @@ fn is_of_a_special_byte(fault: &Fault) -> bool {
     )
 }
 
-/// Returns the hint at a source's first default that looks like another tool's, or `None` if there is none.
+/// Returns the hint for a source's first default that looks like another tool's. Returns `None` if there is
+/// none, or for a document.
 pub(crate) fn default_hint(
     alloc: Global,
     options: &Options<'_>,
@@ -139,7 +141,8 @@ pub(crate) fn hint_at(
     format!(in alloc; "{name}:{line}:{column}: hint: {what}\n")
 }
 
-/// Returns the hint at the first fault of a TOML document that is a variable outside of strings, or `None`.
+/// Returns the hint for a TOML document's first fault that is a variable outside of strings, or `None` if
+/// there is none.
 pub(crate) fn document_hint(
     alloc: Global,
     format: InputFormat,
@@ -164,7 +167,7 @@ fn is_unquoted(bytes: &[u8], fault: &Fault) -> bool {
     message.starts_with(NO_VALUE) && bytes.get(fault.range.start) == Some(&b'$')
 }
 
-/// A default: the text after `${`, a name and a colon.
+/// A default: the text after `${NAME:`.
 #[derive(Clone, Copy)]
 struct DefaultAt<'s> {
     /// The variable's name.
@@ -177,7 +180,8 @@ struct DefaultAt<'s> {
     first: u8,
 }
 
-/// Returns the first default with a hint whose colon is at `start` or later, or `None` if there is none.
+/// Returns the first default that has a hint and whose colon is at `start` or later, or `None` if there is
+/// none.
 fn hinted_default<'s>(
     source: &'s [u8],
     start: usize,
@@ -195,7 +199,7 @@ fn hinted_default<'s>(
     None
 }
 
-/// Returns whether a default has a hint, since it looks like another tool's.
+/// Returns whether a default looks like another tool's, and so has a hint.
 fn is_hinted(found: DefaultAt<'_>, placeholders: &Placeholders<'_>) -> bool {
     let Placeholders::Chosen(chosen) = placeholders else {
         return is_of_a_shell(found.first) && !ends_with_escape(found.front);
@@ -243,7 +247,8 @@ fn ends_with_escape(bytes: &[u8]) -> bool {
     backslashes % 2 == 1
 }
 
-/// Splits bytes that end in `${` and a name into the bytes before `${` and the name, or returns `None`.
+/// Splits a `${NAME` off the end of bytes. Returns the bytes before it and the name, or `None` if the bytes
+/// end otherwise.
 fn name_before(bytes: &[u8]) -> Option<(&[u8], &[u8])> {
     let before = bytes
         .iter()
@@ -255,14 +260,14 @@ fn name_before(bytes: &[u8]) -> Option<(&[u8], &[u8])> {
     Some((front.strip_suffix(b"${")?, name))
 }
 
-/// A hint at an unset variable: its name, and the line to be printed.
+/// A hint for an unset variable: its name, and the line to be printed.
 #[derive(Drop)]
 pub struct UnsetHint {
     pub name: String,
     pub line: String,
 }
 
-/// Returns a hint at each unset variable without an operator that expands to nothing. Only shell-style texts
+/// Returns a hint for each unset variable that expands to nothing and has no operator. Only shell-style texts
 /// that aren't documents have such hints.
 pub(crate) fn unset_hints(
     alloc: Global,
@@ -293,7 +298,7 @@ pub(crate) fn unset_hints(
     Ok(hints)
 }
 
-/// Returns the hint at an unset variable of a file.
+/// Returns the hint for an unset variable of a file.
 pub(crate) fn unset_hint(
     alloc: Global,
     file: &str,

@@ -131,8 +131,9 @@ pub(crate) fn from_pairs(alloc: Global, pairs: &[Pair]) -> Result<Vec<Entry>, Al
     Ok(entries)
 }
 
-/// Returns the entries that take precedence over `.env` files, the highest first: those of options and then
-/// of values files, each from the last to the first, and then the environment's.
+/// Returns the entries that take precedence over `.env` files, the highest first. The entries of options come
+/// first, then those of values files, both from the last to the first. Those of the environment follow, in
+/// their order.
 pub(crate) fn above(
     mut set: Vec<Entry>,
     lines: Vec<Entry>,
@@ -149,8 +150,8 @@ pub(crate) fn above(
     Ok(entries)
 }
 
-/// Returns all entries, the highest precedence first: `above`, those of `.env` files from the last to the
-/// first, and the defaults from the last to the first.
+/// Returns all entries, the highest precedence first. After `above` come `dotenv` and then `defaults`, both
+/// from the last entry to the first.
 pub(crate) fn in_order(
     above: Vec<Entry>,
     mut dotenv: Vec<Entry>,

@@ -83,7 +83,8 @@ impl Listing {
         Ok(())
     }
 
-    /// Returns the listing: a line for each variable, of tab-separated name, position, kind and default.
+    /// Returns the listing: for each variable a line with its name, position, kind and any default, separated
+    /// by tabs.
     ///
     /// # Errors
     ///
@@ -133,7 +134,7 @@ pub(crate) fn printable_default(
     cut(alloc, printable(alloc, default)?, WIDEST_DEFAULT)
 }
 
-/// Removes the operator before a default: a colon, and for shell forms a minus.
+/// Removes the operator before a default: `:`, or in shell forms `:-` or `-`.
 fn after_operator<'t>(text: &'t [u8], placeholders: &Placeholders<'_>) -> &'t [u8] {
     let rest = text.strip_prefix(b":").unwrap_or(text);
     match placeholders {

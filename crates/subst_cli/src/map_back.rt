@@ -75,8 +75,8 @@ pub(crate) fn counterparts<'t>(
     }
 }
 
-/// Returns the unset variables of a text that its expansion needs and that have no operator. `values` is the
-/// map in which the text's template looks up names.
+/// Returns the unset variables that a text's expansion needs and that have no operator. `values` is the map
+/// in which the text's template looks up names.
 ///
 /// # Errors
 ///
@@ -168,7 +168,8 @@ fn paired<'t>(
     Ok(counterparts)
 }
 
-/// Maps a template's fault back to the text: to the variable `found`, or to the same position without it.
+/// Maps a template's fault back to the text: to the position of `found`, or to the same position if `found`
+/// is `None`.
 ///
 /// # Errors
 ///
@@ -252,7 +253,8 @@ fn unset(
     })
 }
 
-/// Returns a variable's message, expanded if it isn't refused, and escaped for a terminal.
+/// Returns a variable's message, escaped for a terminal. The message is expanded first, unless that is
+/// refused.
 ///
 /// # Errors
 ///

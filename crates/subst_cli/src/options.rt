@@ -100,7 +100,7 @@ pub enum Escape {
     Sh,
 }
 
-/// The treatment of the last line end in a file that is a value.
+/// The treatment of the last line end in a file whose contents are a value.
 #[derive(Clone, Copy, PartialEq, Eq)]
 pub enum LineEnd {
     /// The line end is removed.
@@ -141,7 +141,7 @@ pub struct Options<'w> {
     pub named_files: Vec<NamedFile<'w>>,
     /// The values files, and the directories with a file per variable.
     pub values_files: Vec<&'w str>,
-    /// The treatment of the last line end in a file that is a value.
+    /// The treatment of the last line end in a file whose contents are a value.
     pub line_end: LineEnd,
     /// Whether the environment's variables are used.
     pub environment: bool,
@@ -161,7 +161,8 @@ pub struct Options<'w> {
     pub placeholders: Placeholders<'w>,
     /// Whether hints are printed at unset variables of shell-style texts. `--optional` turns the hints off.
     pub hints_unset: bool,
-    /// Whether a default like another tool's is a fault, by `--check --strict`, or only causes a hint.
+    /// Whether a default that looks like another tool's is a fault, as with `--check --strict`. Otherwise it
+    /// only causes a hint.
     pub refuses_defaults: bool,
     /// The action of the run.
     pub action: Action<'w>,
@@ -236,7 +237,7 @@ impl<'w> Options<'w> {
         Err(wrong(alloc, &message))
     }
 
-    /// Refuses standard input if values are read from it twice, or both values and a source.
+    /// Refuses arguments that read standard input twice for values, or both for values and as a source.
     fn check_read_once(&self, alloc: Global) -> Result<(), Error> {
         let mut readers = count_standard_input(&self.values_files)
             .saturating_add(count_standard_input(&self.dotenv_files))
@@ -385,7 +386,7 @@ fn format_rule_of<'w>(
     Ok(FormatRule::One(format))
 }
 
-/// Returns the treatment of the last line end in a file that is a value.
+/// Returns the treatment of the last line end in a file whose contents are a value.
 fn line_end_of(matches: &ArgMatches<'_>) -> LineEnd {
     if matches.get_flag("keep-line-end") {
         LineEnd::Kept
@@ -454,7 +455,7 @@ fn forms_of(matches: &ArgMatches<'_>) -> Forms {
     }
 }
 
-/// Returns the choice of names by `--only` or `--known`, or of all names.
+/// Returns the choice of names by `--only` or `--known`. Without these options, all names are chosen.
 fn choice_of<'w>(alloc: Global, matches: &ArgMatches<'w>) -> Result<Choice<'w>, Error> {
     if matches.contains_id("only") {
         only_names(alloc, matches)
@@ -465,7 +466,8 @@ fn choice_of<'w>(alloc: Global, matches: &ArgMatches<'w>) -> Result<Choice<'w>, 
     }
 }
 
-/// Returns how an unset variable expands, which `--optional` or `--strict` decides, or else `forms`.
+/// Returns how an unset variable expands. `--optional` or `--strict` decides this, and without either,
+/// `forms` does.
 fn missing_of(alloc: Global, matches: &ArgMatches<'_>, forms: Forms) -> Result<Missing, Error> {
     let is_strict = matches.get_flag("strict");
     let is_optional = matches.get_flag("optional");
@@ -493,8 +495,8 @@ fn only_names<'w>(alloc: Global, matches: &ArgMatches<'w>) -> Result<Choice<'w>,
     Ok(Choice::Only(OnlyNames::new(alloc, &names)?, starts))
 }
 
-/// Appends the names in `text`, written `NAME`, `$NAME` or `${NAME}`, to `names`, and the prefixes, written
-/// `APP_*`, to `starts`. Commas or blanks separate them.
+/// Appends the names in `text` to `names`, and the prefixes to `starts`. A name is written `NAME`, `$NAME` or
+/// `${NAME}`, and a prefix like `APP_*`. Commas or blanks separate names and prefixes.
 fn add_names<'w>(
     alloc: Global,
     names: &mut Vec<&'w str>,

@@ -22,7 +22,8 @@ const COMMON_PERMISSIONS: u32 = 0o777;
 /// The most symbolic links that are followed to a file that doesn't exist.
 const MOST_LINKS: usize = 40;
 
-/// The most characters of a file's name in the name of the new file that replaces it. Systems limit names.
+/// The most characters that a new file's name takes from the name of the file that it replaces. Systems limit
+/// the length of names.
 const MOST_OF_NAME: usize = 50;
 
 /// Writes bytes to standard output.
@@ -47,8 +48,9 @@ pub(crate) fn regular_file(rt: &HostRuntime, path: &str) -> io::Result<Option<(u
     Ok(found.is_file().then_some((found.dev(), found.ino())))
 }
 
-/// Returns the mode of a new file for a template's output, before the umask applies: the template's, so that
-/// no more users can read the output, or [`NEW_MODE`] if the template isn't a regular file.
+/// Returns the mode of a new file for a template's output, before the umask applies. It is the template's
+/// mode without the set-ID and sticky bits, so that no more users can read the output than the template. If
+/// the template isn't a regular file, the mode is [`NEW_MODE`].
 pub(crate) fn mode_of_new(rt: &HostRuntime, template: &str) -> u32 {
     match fs::metadata(rt, template) {
         Ok(found) if found.is_file() => found.permissions().mode() & COMMON_PERMISSIONS,
@@ -110,7 +112,7 @@ fn write_through(rt: &HostRuntime, path: &str, at_end: bool, bytes: &[u8]) -> io
     file.write_all(bytes)
 }
 
-/// Returns the path of the new file that is tried first to replace a file.
+/// Returns the first path that is tried for the file that replaces the one at `path`.
 ///
 /// # Errors
 ///

@@ -107,7 +107,8 @@ fn chosen_template(
     }
 }
 
-/// Returns a fault for each refused form of a text: for `first`, and for each form in `all` but the first.
+/// Returns a fault for each refused form of a text: for `first`, and for the second and all later forms in
+/// `all`.
 ///
 /// # Errors
 ///
@@ -235,8 +236,9 @@ fn unreadable(alloc: Global, position: usize, name: &str) -> Result<Fault, Alloc
     })
 }
 
-/// Returns the faults of `refusal` and `besides`, the faults of variables whose values aren't UTF-8, in the
-/// order of their positions. A variable that is missing because its value isn't UTF-8 has one fault.
+/// Returns the faults of `refusal` and those in `besides`, in the order of their positions. `besides` has the
+/// faults of variables whose values aren't UTF-8. A variable that is missing for that reason has only one
+/// fault.
 ///
 /// # Errors
 ///
@@ -364,7 +366,8 @@ fn uses_in_chosen(
     Ok(Ok(uses))
 }
 
-/// Returns how a variable of another tool's text expands if it is unset: by its operator, if it has one.
+/// Returns how an unset variable of another tool's text expands. Its operator decides this; without an
+/// operator, `is_optional` and `missing` do.
 fn kind_of(operator: Option<Operator>, missing: Missing, is_optional: bool) -> VariableKind {
     match operator {
         Some(Operator::Question | Operator::ColonQuestion) => VariableKind::Required,

@@ -77,7 +77,7 @@ fn is_known(variables: Option<&Variables<'_>>, name: &[u8]) -> bool
     variables.has(name)
 }
 
-/// Returns the style with the chosen forms and expansion of unset variables, and with these names.
+/// Returns a style with these names. Its forms and its expansion of unset variables are those of `chosen`.
 pub(crate) fn style_of<'n, 'r, 'w, 'v>(
     chosen: &Chosen<'w>,
     names: &'n ChosenNames<'r, 'w, 'v>,

@@ -91,7 +91,8 @@ impl<'r> Report<'r> {
         self.print(Severity::Misuse, message);
     }
 
-    /// Reports a failed file or device with the system's message, or out of memory.
+    /// Reports a failed file or device with the system's message. If the error is out of memory, reports that
+    /// instead.
     ///
     /// # Errors
     ///
@@ -136,7 +137,7 @@ impl<'r> Report<'r> {
         }
     }
 
-    /// Prints hints at unset variables, at most one for each name in a run. The exit status is unchanged.
+    /// Prints hints for unset variables, at most one for each name in a run. The exit status is unchanged.
     ///
     /// # Errors
     ///

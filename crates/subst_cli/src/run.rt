@@ -96,7 +96,8 @@ fn layers(
     Ok(read)
 }
 
-/// Parses `.env` files. Prints hints at unset variables. Reports a refused file, and then returns no entries.
+/// Parses `.env` files, and prints hints for unset variables. If a file is refused, reports it and returns no
+/// entries.
 fn dotenv(
     alloc: Global,
     options: &Options<'_>,
@@ -129,8 +130,8 @@ fn report_values(
     Ok(())
 }
 
-/// Reads values files. Of a directory, reads each file whose name is a variable name. Reports files that
-/// can't be read.
+/// Reads values files. For a directory, reads each file in it whose name is a variable name. Reports files
+/// that can't be read.
 fn values_sources(
     rt: &HostRuntime,
     options: &Options<'_>,
@@ -153,7 +154,8 @@ fn values_sources(
     Ok(sources)
 }
 
-/// Reads the files in `directory` that have variable names into `sources`, as the values of these variables.
+/// Reads each file in `directory` whose name is a variable name. Appends it to `sources` as the value of that
+/// variable, or reports why it can't be read.
 fn add_directory(
     rt: &HostRuntime,
     options: &Options<'_>,
@@ -186,7 +188,8 @@ fn add_value(
     Ok(())
 }
 
-/// Returns the variables of values files in order, or no variables if files are refused, which it reports.
+/// Returns the variables of values files, in order. If files are refused, reports them and returns no
+/// variables.
 fn entries(
     alloc: Global,
     files: Vec<ValuesSource>,
@@ -506,7 +509,8 @@ fn is_denied(e: &io::Error) -> bool {
     )
 }
 
-/// Reports the failure to write `file`, if `outcome` is one. Also reports if no new file can replace `file`.
+/// Reports the failure to write `file`, if `outcome` is one. Also reports that no new file can replace
+/// `file`, if the kind of the error suggests that.
 fn report_write(
     rt: &HostRuntime,
     file: &str,

@@ -64,7 +64,8 @@ pub(crate) fn messages(
     Ok(text)
 }
 
-/// Returns a fault's path, if not empty, and message. Both are escaped for a terminal, and cut if too wide.
+/// Returns the path and the message of a fault, or the message alone if the path is empty. Each is escaped
+/// for a terminal, and cut if too wide.
 fn fault_message(alloc: Global, fault: &Fault) -> Result<String, AllocError> {
     let cause = format_within(alloc, &fault.cause, WIDEST_FAULT)?;
     if fault.path.is_empty() {

@@ -36,8 +36,9 @@ impl Template {
     }
 }
 
-/// Returns the templates of a path, sorted by name: of a directory, all files in it and its subdirectories
-/// whose paths end in `suffix`, or else the path itself. Names are without the suffix.
+/// Returns the templates of a path, sorted by name. For a directory, these are the files whose paths end in
+/// `suffix`, in it and in its subdirectories. Otherwise, the path itself is the only template. Names are
+/// without the suffix.
 ///
 /// # Errors
 ///

@@ -48,8 +48,9 @@ fn push_printable(escaped: &mut String, c: char) -> Result<(), AllocError> {
     }
 }
 
-/// Returns whether a character is escaped by its number. Such are control characters, line ends and changes
-/// of direction, and, except for signs of scripts, Unicode's format and default-ignorable characters.
+/// Returns whether a character is escaped by its number. This applies to control characters, line ends,
+/// direction changes, and Unicode's default-ignorable characters. Other format characters of Unicode are
+/// escaped too, unless they are signs of a script.
 fn is_hidden(c: char) -> bool {
     c.is_control()
         || is_ignorable(c)

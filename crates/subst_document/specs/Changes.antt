@@ -12,7 +12,7 @@ is_other (Kept n) = false
 is_other (Text x) = true
 is_other (Inside' shape all) = true
 
--- a change of a list, for its first value only: `Kept` loses the number of kept values after it
+-- a change in a list, limited to its first value: `Kept n` becomes `Kept 0`
 abbrev pub one : Change → Change
 one (Kept n) = Kept 0
 one (Text x) = Text x
@@ -29,7 +29,7 @@ abbrev pub slots : List Change → List Change
 slots [] = []
 slots (change ∷ changes) = slots_of change ++ slots changes
 
--- the string s after a change, which replaces it only if it is `Text`
+-- the string s after a change: replaced if the change is `Text`, and otherwise unchanged
 abbrev pub text_after : List ℕ → Change → List ℕ
 text_after s (Kept n) = s
 text_after s (Text x) = string_bytes x
@@ -56,7 +56,7 @@ abbrev pub rest_of : List Change → List Change
 rest_of [] = []
 rest_of (change ∷ changes) = changes
 
--- The second list of values is the first one after these changes, in order. `Made` relates a value, its
+-- These changes, made in order, turn the first list of values into the second. `Made` relates a value, its
 -- change and the value after the change.
 abbrev pub AreMade : {T : Type 0} → (T → Change → T → Type 0) → List T → List Change → List T → Type 0
 AreMade Made [] changes [] = ⊤

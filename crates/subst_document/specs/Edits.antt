@@ -1,6 +1,6 @@
 -- Texts with their strings filled in, in some format. `IsToken` holds of a part of a text and the string that
--- this part spells. `IsPart` holds of a token, a piece of the token, and the part of the string as which the
--- piece is read. `Fits` holds of a token and a value that the token's kind can spell, and `Becomes` of a
+-- this part spells. `IsPart` holds of a token, a piece of the token, and the part of the string that this
+-- piece spells. `Fits` holds of a token and a value that the token's kind can spell, and `Becomes` of a
 -- string and its value.
 use Rattle.std.specs.Prelude.{◌≡◌, ◌⊎◌, ◌≤◌, ⊤, ℕ, List, [], ◌∷◌, ◌++◌, Option, MatchOption, map, slice_range, string_bytes}
 use Rattle.subst_error.specs.Range.{IsRangeIn}
@@ -14,8 +14,9 @@ use Rattle.subst_document.specs.declared.edits.StringAt.{StringAt}
 abbrev pub IsChanged : (List ℕ → List ℕ → Type 0) → List ℕ → Option (List ℕ) → Type 0
 IsChanged Becomes x changed = MatchOption changed (Becomes x x) (λ value. Becomes x value × ¬ (value ≡ x))
 
--- `source` and `output` are equal up to `token`, a token of the string x, and `new`, a token of `value`.
--- After these tokens the texts go on with `rest` and `filled_rest`, which may differ.
+-- `source` and `output` begin with the same bytes. Then `source` has `token`, a token of the string x, and
+-- `output` has `new`, a token of `value`. After these tokens the texts go on with `rest` and `filled_rest`,
+-- which may differ.
 pub record Edit (IsToken : List ℕ → List ℕ → Type 0) (IsPart : List ℕ → List ℕ → List ℕ → Type 0)
     (Fits : List ℕ → List ℕ → Type 0) (Becomes : List ℕ → List ℕ → Type 0)
     (x value source output : List ℕ) : Type 0 where
@@ -30,8 +31,8 @@ pub record Edit (IsToken : List ℕ → List ℕ → Type 0) (IsPart : List ℕ 
   pub source_is : source ≡ before ++ (token ++ rest)
   pub output_is : output ≡ before ++ (new ++ filled_rest)
 
--- `output` is `source` with these strings filled in, in order. The token of each string that changes is
--- replaced by a token of the string's value, as by `IsRespelled`. All other bytes are the same.
+-- `output` is `source` with these strings filled in, in order. If a string changes, its token is replaced by
+-- a token of its value, as `IsRespelled` states. All other bytes are the same.
 abbrev pub IsFilledText : (List ℕ → List ℕ → Type 0) → (List ℕ → List ℕ → List ℕ → Type 0)
     → (List ℕ → List ℕ → Type 0) → (List ℕ → List ℕ → Type 0)
     → List (List ℕ) → (source : List ℕ) → (output : List ℕ) → Type 0
@@ -77,7 +78,7 @@ abbrev pub text_at : StringAt → List ℕ
 text_at it = string_bytes it.text
 
 -- `new` is `old` and then an item for each of these strings. The strings are spelled at their spans in
--- `source`, between the positions `from` and `next`, whatever items follow.
+-- `source`, between the positions `from` and `next`. This holds for all items that may follow after `next`.
 abbrev pub AreListed : (List ℕ → List ℕ → Type 0) → (source : List ℕ) → ℕ → ℕ → List (List ℕ)
     → (old : List StringAt) → (new : List StringAt) → Type 0
 AreListed IsToken source from next strings old new =

@@ -10,7 +10,7 @@ pub data PathStep : Type 0 where
   Key : List ℕ → PathStep
   Index : ℕ → PathStep
 
--- the step of the definitions for a step of the code
+-- a step of the code, converted into a step of these definitions
 abbrev pub step_of : steps.PathStep → PathStep
 step_of (variants.Key key) = Key (string_bytes key)
 step_of (variants.Index index) = Index index

@@ -48,6 +48,7 @@ AreRefusedOf {P} ask LeadsTo index (it ∷ rest) refusals =
 abbrev pub with_path : {P : Type 0} → RefusalAt ℕ → P → RefusalAt P
 with_path it path = record { path = path; text = it.text; span = it.span; error = it.error }
 
--- each path leads to the string whose index is the `path` of the refusal at the same place of the lists
+-- the paths lead to the strings of these refusals, in order; here the `path` of a refusal is the index of its
+-- string
 abbrev pub ArePathsTo : {P : Type 0} → (ℕ → P → Type 0) → List (RefusalAt ℕ) → List P → Type 0
 ArePathsTo LeadsTo = AllZip (λ it path. LeadsTo it.path path)

@@ -9,8 +9,8 @@ use Rattle.subst_language.specs.Language.Name.{IsName}
 abbrev pub bare : List ℕ → List ℕ
 bare = filter (λ b. not (b == backslash))
 
--- One placeholder or escape, as it is written: a backslash or a dollar with one byte, a dollar with a name,
--- or a dollar with matching braces. Inside `braces`, but not `bare_braces`, a backslash escapes a brace.
+-- One placeholder or escape as written: a backslash with one byte, two dollars, a dollar with a name, or a
+-- dollar with matching braces. Inside `braces`, but not `bare_braces`, a backslash escapes a brace.
 pub data IsPlaceholder : List ℕ → Type 0 where
   escape : (b : ℕ) → IsPlaceholder (backslash ∷ b ∷ [])
   dollars : IsPlaceholder (dollar ∷ dollar ∷ [])
@@ -31,7 +31,8 @@ pub record IsPiece (IsPart : List ℕ → List ℕ → Type 0) (piece : Piece) :
   pub spells : (piece.before ≡ piece.text) ⊎ IsPart piece.before piece.text
   pub stays : (piece.after ≡ piece.before) ⊎ IsPlaceholder piece.text
 
--- the pieces of strings, their spelling, and the bytes in the new tokens, each concatenated
+-- the texts of these pieces, concatenated; `befores` concatenates their spellings in the tokens, and `afters`
+-- those in the new tokens
 abbrev pub texts : List Piece → List ℕ
 texts = flat_map (λ piece. piece.text)
 
@@ -69,7 +70,7 @@ pub record AppendsUpTo (IsPart : List ℕ → List ℕ → Type 0) (text text_re
   pub token_is : token ≡ before ++ token_rest
   pub appends : AppendsPieces IsPart passed before old new
 
--- a part of a string, and its output by itself
+-- a part of a string, and the output of the part alone
 pub record Part : Type 0 where
   pub text : List ℕ
   pub output : List ℕ

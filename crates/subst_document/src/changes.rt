@@ -117,7 +117,7 @@ impl FoundChanges {
 /// The changes that a walk has yet to make to the values inside an array, object or table.
 #[derive(Drop)]
 pub struct RemainingChanges {
-    // The number of next values that are kept.
+    // The number of values that are kept before the next of `changes`.
     kept: usize,
     changes: IntoIter<Change>,
 }

@@ -66,8 +66,8 @@ pub trait StringFormat {
     fn fits(&self, token: &str, value: &str) -> bool
         ensures { is_fit token.now value.now → IsTrue result };
 
-    /// Finds the content of `token`, which spells `text`, and the spans in `token` of `parts`, byte ranges of
-    /// `text`. Returns `None` if the content or a span isn't found.
+    /// Finds the content of `token`, and the spans in `token` that spell `parts`. `token` spells `text`, and
+    /// `parts` are byte ranges of `text`. Returns `None` if the content or a span isn't found.
     fn content(
         &mut self,
         alloc: Global,
@@ -76,7 +76,8 @@ pub trait StringFormat {
         parts: &[Range<usize>],
     ) -> Result<Option<Content>, AllocError>;
 
-    /// Appends `value` without quotes, in the kind of `token`. Returns `false` if the kind can't spell it.
+    /// Appends `value`, spelled in the kind of `token`, but without the quotes. Returns `false` if the kind
+    /// can't spell it.
     fn write_value(
         &mut self,
         alloc: Global,
@@ -87,7 +88,7 @@ pub trait StringFormat {
         ensures { IfOk result (λ is. IsTrue is → (spelled : List ℕ)
             × (string_bytes output.new ≡ string_bytes output.old ++ spelled)) };
 
-    /// Appends a line end that is no part of the string if it directly follows the opening quotes. Returns
+    /// Appends a line end. If it directly follows the opening quotes, it is no part of the string. Returns
     /// `false` if the format has no such line end.
     fn write_line_end(&mut self, output: &mut String) -> Result<bool, AllocError>
         ensures { IfOk result (λ is. IsTrue is → (spelled : List ℕ)

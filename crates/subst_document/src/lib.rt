@@ -46,8 +46,8 @@ mod strings;
 
 /// A way to fill in texts.
 ///
-/// A walk over a tree is recursive, and the toolchain can't prove a recursive function under a bound that
-/// names a lifetime, as `VariableMap<'a>`. So walks are generic in this trait.
+/// A walk over a tree is recursive. The toolchain can't prove a recursive function with a bound that names a
+/// lifetime, such as `VariableMap<'a>`. So walks are generic in this trait.
 pub trait Fill {
     // The answers of a text: its output, or the fault for which it is refused.
     ghost answers: { Self → List ℕ → Answer → Type 0 };
@@ -71,7 +71,8 @@ pub trait Fill {
             (λ e. IsRangeIn source.now (range_of (error_fault e)))) };
 }
 
-/// A filler of texts from a map of variables. A text without `$` and `\` is returned as it is.
+/// A way to fill in texts with the values of a map of variables. A text without `$` and `\` is returned as it
+/// is.
 #[derive(Clone, Copy)]
 pub struct Filler<'a, M> {
     /// The map of variables.

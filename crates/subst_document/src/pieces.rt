@@ -6,7 +6,8 @@ ghost use Rattle.subst_document.specs.Pieces.{ArePiecesFrom};
 use std::alloc::{AllocError, Global};
 use std::ops::Range;
 
-/// A byte offset in a text, and the offset in the string that is spelled up to there.
+/// A position in the spelling of a string: a byte offset in the text, and the matching byte offset in the
+/// string.
 #[derive(Clone, Copy)]
 pub struct Position {
     /// The byte offset in the text.
@@ -26,8 +27,8 @@ pub trait Pieces {
     ghost is_piece: { Self → Position → Position → Type 0 };
 
     /// Returns the position in the token, from `from` on, at which the string is spelled up to `offset`. If
-    /// `is_start`, next bytes that spell nothing are skipped too. Returns `None` if the piece of the token
-    /// between the two positions isn't read as the part of the string between them.
+    /// `is_start`, bytes right after it that spell nothing are skipped too. Returns `None` if the piece of
+    /// the token between `from` and the position isn't read as the part of the string between them.
     fn piece_end(
         &self,
         alloc: Global,
@@ -40,7 +41,7 @@ pub trait Pieces {
             (λ end. (end.offset ≡ offset) × is_piece self.now from end)) };
 }
 
-/// Returns the spans in `token` of `ranges` of the token's string, or `None` if one of these isn't found.
+/// Returns the spans in `token` that spell `ranges` of the token's string, or `None` if a span isn't found.
 /// `first` is the position at which the token's content begins.
 ///
 /// # Errors

@@ -90,7 +90,8 @@ impl FoundPlaceholders {
         }
     }
 
-    /// Handles the `}` at offset `at`. If `$` precedes the matching `{`, `${..}` replaces the spans inside.
+    /// Handles the `}` at offset `at`. If `$` precedes the matching `{`, the span of the whole `${..}`
+    /// replaces the spans inside it.
     fn close(&mut self, at: usize) -> Result<(), AllocError> {
         let Some(Some(start)) = self.open.pop() else {
             return Ok(());

@@ -6,7 +6,7 @@ ghost use Rattle.subst_document.specs.Plain.{with_plain as text_with_plain};
 use crate::edits::{StringAt, slice};
 use std::alloc::{AllocError, Global};
 
-/// Values that replace the strings of a text, none of them a string.
+/// Values that replace the strings of a text.
 pub trait Plain {
     // The bytes that replace the string at an index.
     ghost bytes: { Self → ℕ → List ℕ };
@@ -21,7 +21,8 @@ pub trait Plain {
             (string_bytes output.new ≡ string_bytes output.old ++ bytes self.now index) };
 }
 
-/// Returns `source` with `plain` at the spans of `list`, or `None` if the spans aren't in `source` in order.
+/// Returns `source` with the strings of `list` replaced by the values of `plain`. Returns `None` if the spans
+/// overlap, are out of order, or aren't in `source`.
 ///
 /// # Errors
 ///

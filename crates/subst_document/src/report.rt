@@ -84,8 +84,8 @@ fn each_refusal<R: ReportFormat>(
     Ok(text)
 }
 
-/// Returns the report of the string at `path`, refused for `e`: the path, unless empty, and the text of `e`.
-/// `place` is the byte range of the fault in `source`, or `None` if unknown.
+/// Returns the report of the string at `path`, refused for `e`. The message is the path, unless that is
+/// empty, and the text of `e`. `place` is the byte range of the fault in `source`, or `None` if unknown.
 ///
 /// # Errors
 ///
@@ -165,7 +165,7 @@ fn positioned_lines(
     format!(in alloc; "{file}:{line}:{column}: {message}\n{excerpt}")
 }
 
-/// Adds a caret to `excerpt`, a line of a text with its underline, if the underlined range is empty.
+/// Adds a caret to the underlined line `excerpt` if the underlined range is empty.
 fn add_caret(alloc: Global, excerpt: String) -> Result<String, AllocError>
     ensures { IfOk result (λ text. string_bytes text ≡ with_caret (string_bytes excerpt)) }
 {

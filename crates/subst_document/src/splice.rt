@@ -51,12 +51,13 @@ enum Values {
     Each(Vec<Range<usize>>, Vec<Range<usize>>),
     /// The values of the string's parts, joined, aren't the string's value.
     Joined,
-    /// Some part is refused by itself, or changes and is no placeholder.
+    /// Some part is refused if filled in by itself, or changes although it is no placeholder.
     Unknown,
 }
 
-/// Returns a new token for a string that changes, or `None` if no token read as the new value is found.
-/// Placeholders are looked for with backslashes as escapes, and then without, as in other tools' texts.
+/// Returns a new token for a string that changes, or `None` if no token is found that is read as the new
+/// value. Placeholders are looked for with backslashes as escapes, and then without, as in other tools'
+/// texts.
 ///
 /// # Errors
 ///
@@ -93,8 +94,9 @@ pub(crate) fn new_token<S: StringFormat, F: Fill>(
     }
 }
 
-/// Returns a new token, as [`new_token`], in which only the placeholders at `spans` are rewritten if their
-/// values fit. `values` are the spans of the placeholders' values in the string's new value.
+/// Returns a new token, as [`new_token`] does. If the values fit the kind of the old token, only the
+/// placeholders at `spans` are rewritten. `values` are the spans of the placeholders' values in the string's
+/// new value.
 ///
 /// # Errors
 ///
@@ -157,8 +159,8 @@ fn values_of<F: Fill>(
     values_of_each(alloc, change, spans, filler)
 }
 
-/// Returns the span, in the string's new value, of the value of its only placeholder, which is at `span`.
-/// Returns `None` if the text around the placeholder changes.
+/// Returns the span of the only placeholder's value in the string's new value. `span` is the placeholder's
+/// span in the string. Returns `None` if the text around the placeholder changes.
 fn between(change: ChangedString<'_>, span: &Range<usize>) -> Option<Range<usize>> {
     let after = change.text.get(span.end..)?;
     let value = change.value.strip_prefix(change.text.get(..span.start)?)?;
@@ -266,8 +268,9 @@ struct Rest<'s> {
     token: &'s str,
 }
 
-/// Returns the old token with each placeholder replaced by its value, or `None` if that can't be spelled and
-/// confirmed in the token's kind. If `begins_line`, a line end precedes the first value.
+/// Returns the old token with each placeholder replaced by its value. Returns `None` if the token's kind
+/// can't spell a value, or if a piece of the token isn't read as its part of the string. If `begins_line`, a
+/// line end precedes the first value.
 ///
 /// # Errors
 ///
@@ -334,8 +337,9 @@ fn spliced<S: StringFormat>(
     Ok(Some(output))
 }
 
-/// Cuts `rest`, the end of a token's content, before and after the placeholder of an index. If the content is
-/// the string itself, that placeholder is at `range` of `rest`. Returns `None` if it isn't in `rest`.
+/// Cuts `rest`, the end of a token's content, before and after the placeholder with the index `index`. If the
+/// content is the string itself, the placeholder is at `range` of `rest`. Returns `None` if the placeholder
+/// isn't in `rest`.
 fn cut_content<'s>(
     content: &Content,
     rest: &'s str,
@@ -400,9 +404,9 @@ fn append_placeholder<S: StringFormat>(
     )
 }
 
-/// Appends `before`, a piece of the token `whole`, or instead `value` if it isn't `None`. Returns `false` if
-/// `before` isn't read as `text`, a part of the string. With a value, also `false` if `text` is no
-/// placeholder or the kind of `whole` can't spell the value.
+/// Appends `before`, a piece of the token `whole`. If there is a `value`, appends the value instead. Returns
+/// `false` if `before` isn't read as `text`, a part of the string. With a value, also returns `false` if
+/// `text` is no placeholder, or if the kind of `whole` can't spell the value.
 ///
 /// # Errors
 ///

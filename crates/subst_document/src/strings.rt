@@ -1,4 +1,4 @@
-//! Passes over the strings of a text, in order: filling them in, listing them, and checking their spans.
+//! Fills in the strings of a text in order, lists them, and checks their spans.
 
 ghost use Rattle.std.specs.Prelude.{◌≡◌, ◌∷◌, ◌++◌, [], ℕ, List, IfOk, IfSome, IsTrue, MatchOption, OnOk, length, map, string_bytes};
 ghost use Rattle.subst_error.specs.ErrorFault.{error_fault};
@@ -56,7 +56,7 @@ impl<'t> Strings<'t> for ListedStrings<'t> {
     }
 }
 
-/// The values of changed strings, in the order of the text.
+/// The new values of changed strings, in the order of the strings in the document.
 #[derive(Debug, Drop)]
 pub struct ChangedValues {
     /// The values, concatenated.
@@ -165,7 +165,8 @@ pub fn filled_in<'t, S: Strings<'t>, T: StringFormat, F: Fill>(
     }))
 }
 
-/// Returns `strings` as a list, or `None` if a span doesn't spell its string or starts before the last ends.
+/// Returns `strings` as a list, or `None` if a span doesn't spell its string or begins before the previous
+/// one ends.
 ///
 /// # Errors
 ///

@@ -56,7 +56,7 @@ abbrev pub IsQuoted : CharOrByte → List ℕ → Type 0
 IsQuoted (Char c) text = IsQuotedChar c text
 IsQuoted (Byte b) text = quoted_of (Byte b) ≡ Some text
 
--- the text of a fault, or `None` if that quotes a character that isn't ASCII, which may be escaped or not
+-- the text of a fault, or `None` if the text quotes a character that isn't ASCII and so may be escaped or not
 abbrev pub display_of_fault : Fault → Option (List ℕ)
 display_of_fault (InvalidEscapeSequence position (Some c)) =
     Some (codes "Invalid escape sequence: \\" ++ display_of_character c)

@@ -7,7 +7,7 @@ use Rattle.subst_error.specs.Line.{line_before}
 use Rattle.subst_error.specs.Range.{range_of}
 
 -- The byte b, before the bytes `rest`, ends a line. It is a line feed, or a carriage return that no line feed
--- follows, so that the two together end one line.
+-- follows. So a carriage return and the line feed after it end a single line.
 abbrev pub ends_line : ℕ → List ℕ → Bool
 ends_line b rest = b == 10 || (b == 13 && not (starts_with nat_eq rest (10 ∷ [])))
 

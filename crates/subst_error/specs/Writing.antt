@@ -1,4 +1,4 @@
--- Writing to a formatter, if only a property of the text is known.
+-- Writing a text to a formatter, when only a property of the text is known.
 use Rattle.std.specs.Prelude.{ℕ, List, Result, IsOk}
 use Rattle.std.specs.Fmt.{IsPlainFormatter, HasWritten}
 use Rattle.std.specs.declared.fmt.Formatter.{Formatter}

@@ -27,7 +27,8 @@ use crate::{
     SubstituteIntoError, UnexpectedCharacter,
 };
 
-/// The law of clones. A clone states the same fault as the error, or out of memory if the error does.
+/// The law of clones. A clone states the same fault as the error. If the error is out of memory, so is its
+/// clone.
 pub fn clones_state_equal_faults()
     ensures error { (e copy : Error) → ⟦<Error as Clone>⟧.is_clone e copy
         → error_fault copy ≡ error_fault e }
@@ -101,8 +102,9 @@ pub fn equal_errors_state_equal_faults()
         (substituting_into.Parse a) (substituting_into.Expand b) ≡ false }
 {}
 
-/// The law of equality of the structs that errors hold. Two of one type are equal if and only if errors with
-/// them state equal faults. Two `ExpectedCharacter`s are equal if and only if their messages are.
+/// The law of equality of the structs that errors hold. Two structs of one type are equal if and only if the
+/// errors that hold them state equal faults. Two `ExpectedCharacter`s are equal if and only if their messages
+/// are.
 pub fn equal_parts_state_equal_faults()
     ensures escape { (a b : InvalidEscapeSequence)
         → IsTrue (⟦<InvalidEscapeSequence as PartialEq>⟧.eq a b)

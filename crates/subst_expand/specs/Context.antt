@@ -17,9 +17,9 @@ use Rattle.subst_expand.specs.declared.expand.Stop.TheVariants as stop
 use Rattle.subst_language.specs.declared.part.Part.{Part}
 use Rattle.subst_language.specs.declared.part.Part.TheVariants.{Default}
 
--- The ghost members of the reader, the map and the output of an expansion. Of the reader, `read` is the bytes
--- of a value, and `is_read` a property of them. Of the map, `see` and `look_up` define the look-up. `holds`
--- relates an output, its first state and its bytes; `len` and `capacity` are in bytes.
+-- The ghost members of the reader, the map and the output of an expansion. The reader's `read` is the bytes
+-- of a value, and its `is_read` a property of them. The map's `see` and `look_up` define the look-up. The
+-- output's `holds` relates an output, its first state and its bytes; `len` and `capacity` are in bytes.
 pub record Context (V Seen W First : Type 0) : Type 1 where
   pub read : V → List ℕ
   pub is_read : List ℕ → Type 0
@@ -41,7 +41,7 @@ context_of read is_read see look_up holds len capacity = record {
   capacity = capacity;
 }
 
--- `ByLookUp` for the context's map: P holds of the map's look-up of bytes
+-- `ByLookUp` for the context's map: P holds of the look-up from names to the bytes of the map's values
 abbrev pub ByContext : {V Seen W First : Type 0} → Context V Seen W First → (LookUp → Type 0) → Type 0
 ByContext context P = ByLookUp context.read context.see context.look_up P
 
@@ -57,7 +57,8 @@ pub record Writes {V Seen W First : Type 0} (context : Context V Seen W First) (
   pub capacity : context.capacity before ≤ context.capacity after
 
 -- An expansion of the source s stopped in the steps. If it stopped for `Full`, the output's capacity is too
--- small for their bytes. For `Missing`, their value is the missing variable whose name is in the span.
+-- small for the bytes of the steps. If it stopped for `Missing name`, the value of the steps is the missing
+-- variable whose name is in the span `name`.
 abbrev pub StopsAt : {V Seen W First : Type 0} → Context V Seen W First → List ℕ → Stop
     → (LookUp → List Step) → W → Type 0
 StopsAt context s (Full e) steps before = ByContext context (λ look.

@@ -1,4 +1,4 @@
--- The outcome of an expansion, by the parts of its source.
+-- The outcome of an expansion, defined by the parts of its source.
 use Rattle.std.specs.Prelude.{◌≡◌, ℕ, ◌+◌, ◌<◌, List, length, Option, Result, IfErr, IfSome, OnErr, OnOk}
 use Rattle.subst_error.specs.ErrorFault.{expand_into_fault}
 use Rattle.subst_error.specs.declared.borrowed.ExpandIntoError.{ExpandIntoError}
@@ -11,8 +11,8 @@ use Rattle.subst_language.specs.Parts.Meaning.{IsTemplateOf, parts_value, parts_
 use Rattle.subst_language.specs.declared.part.Part.{Part}
 
 -- The outcome of an expansion of the parts of the source s. `read` and `is_read` are the reader's, and `see`
--- and `look_up` the map's. `before` and `after` are the items of the output, and `capacity` and `len` are its
--- capacity and length before.
+-- and `look_up` the map's. `before` and `after` are the output's items before and after the expansion.
+-- `capacity` and `len` are the output's capacity and length before the expansion.
 pub record ExpandsParts {V Seen : Type 0} (read : V → List ℕ) (is_read : List ℕ → Type 0) (see : V → Seen)
     (look_up : List ℕ → Option Seen) (s : List ℕ) (parts : List Part) (before after : List ℕ)
     (capacity len : ℕ) (outcome : Result (Unit {0}) ExpandIntoError) : Type 0 where
@@ -32,8 +32,8 @@ pub record IsExpansion {V Seen : Type 0} (read : V → List ℕ) (is_read : List
   pub template : IsTemplateOf s parts
   pub expands : ExpandsParts read is_read see look_up s parts before after capacity len outcome
 
--- The output of a template of the source s was appended to `before`. It is the output with a mark as each
--- value, in which some marks are replaced by bytes of which `is_read` holds.
+-- The output of a template of the source s was appended to `before`. The appended bytes are the template's
+-- output for marks as values, with some marks replaced by bytes of which `is_read` holds.
 abbrev pub AppendsTemplate : {Seen : Type 0} → (List ℕ → Type 0) → (List ℕ → Option Seen)
     → (s before after : List ℕ) → Type 0
 AppendsTemplate is_read look_up s before after = (parts : List Part) × IsTemplateOf s parts

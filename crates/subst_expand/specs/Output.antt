@@ -9,7 +9,7 @@ use Rattle.subst_expand.specs.declared.expand.Stop.TheVariants.{Full}
 use Rattle.subst_expand.specs.declared.expand.Stop.TheVariants as stop
 use Rattle.subst_language.specs.declared.part.Span.{Span}
 
--- the bytes `more` were appended to an output, whose states are `before` and `after`, whatever it held
+-- whatever an output held, the bytes `more` were appended to it; its states are `before` and `after`
 abbrev pub Puts : {W First : Type 0} → (W → First → List ℕ → Type 0) → W → List ℕ → W → Type 0
 Puts {W} {First} holds before more after =
     (first : First) → (x : List ℕ) → holds before first x → holds after first (x ++ more)

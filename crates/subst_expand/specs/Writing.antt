@@ -20,7 +20,8 @@ HasJump look_up s end part = IfSome (jump_of look_up s part) (λ next. (0 < next
 abbrev pub AllHaveJumps : {Seen : Type 0} → (List ℕ → Option Seen) → List ℕ → ℕ → List Part → Type 0
 AllHaveJumps look_up s end parts = AllByRecursion (HasJump look_up s end) parts
 
--- `visited` computes the visited parts, which were written to an output with the states `before` and `after`
+-- the parts that `visited` computes from the look-up were written to an output, whose states are `before` and
+-- `after`
 abbrev pub WritesVisited : {V Seen W First : Type 0} → Context V Seen W First → List ℕ → (LookUp → List Part)
     → W → W → Type 0
 WritesVisited context s visited before after =
@@ -38,8 +39,8 @@ abbrev pub StopsInParts : {V Seen W First : Type 0} → Context V Seen W First �
 StopsInParts context s stopped parts before after =
     Stops context s stopped (parts_steps parts s) before after
 
--- The outcome of writing the parts of the source s: all were written, or writing stopped within them. Each
--- visited part was a turn.
+-- The outcome of writing the parts of the source s: all were written, or writing stopped within them. One
+-- turn was added for each visited part, or at most as many if writing stopped.
 pub record AppendsParts {V Seen W First : Type 0} (context : Context V Seen W First) (s : List ℕ)
     (parts : List Part) (result : Result (Unit {0}) Stop) (before after : W) (turns_before turns_after : ℕ)
     : Type 0 where
@@ -51,8 +52,7 @@ pub record AppendsParts {V Seen W First : Type 0} (context : Context V Seen W Fi
       turns_after ≤ turns_before + length (visited_parts parts 0 0 s look))
   pub grown : turns_before ≤ turns_after
 
--- all parts were written to an output with the states `first` and `now`, and no default that is skipped is
--- still open
+-- all parts were written to an output with the states `first` and `now`, and every skipped default is closed
 pub record IsWriting {V Seen W First : Type 0} (context : Context V Seen W First) (s : List ℕ) (first now : W)
     (parts : List Part) : Type 0 where
   pub settled : AllHaveJumps context.look_up s (length parts) parts

@@ -51,7 +51,7 @@ impl<'p, O: Offset> CountedParts<'p, O> {
         ensures part { MatchOption result (length self.old.parts ≤ index)
             (λ part. slice_get self.old.parts index ≡ Some part) }
 
-        // The next index is a `usize`.
+        // If a part is returned, `index + 1` fits in a `usize`.
         ensures small { IfSome result (λ _. index + 1 < 2 ^ 64) }
 
         ensures same { self.new.parts ≡ self.old.parts }

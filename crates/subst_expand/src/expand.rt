@@ -1,7 +1,7 @@
 //! The loop that expands a list of parts over its source, compiled for each width of parts and each kind of
 //! output. It appends the value of the parts under the map's look-up, or stops at a missing variable or a
-//! full output, and counts its turns. For any map, contracts state the output around its values, and the
-//! missing variable.
+//! full output. Each part that it visits adds a turn. Even for a map whose values no contract knows,
+//! contracts state the missing variable, and the bytes of the output around the values.
 
 ghost use Rattle.std.specs.Prelude.{◌≡◌, ◌≤◌, ◌<◌, ◌+◌, ◌^◌, ◌++◌, length, Err, IfErr, IfOk, IfSome, OnOk};
 ghost use Rattle.std.specs.Prelude.{vec_capacity, vec_len};
@@ -76,7 +76,8 @@ where
         (λ look. turns.new ≤ turns.old + length (visited_parts parts.now 0 0 source.now look)) }
     ensures grown { turns.old ≤ turns.new }
 
-    // The output, even if no contract knows the values: values that R read, between bytes from the source.
+    // The output, even if no contract knows the values: bytes from the source, with bytes of which
+    // `R.is_read` holds as the values.
     ensures filled { IfOk result (λ output. FillsMarks R.is_read
         (parts_value parts.now source.now (marks_of (M.look_up variables.now))) output.items) }
 
@@ -218,8 +219,8 @@ where
     outcome
 }
 
-/// Appends the output of the parts of a list, as `append` does. Each arm advances the index itself, which
-/// takes fewer instructions than a test of the result of `append_part`.
+/// Appends the output of the parts of a list, as `append` does. Each arm of its `match` advances the index
+/// itself, which takes fewer instructions than a test of the result of `append_part`.
 #[inline(always)]
 fn append_list<'a, M: VariableMap<'a>, R: ReadValue<M::Value>, O: Offset, W: Output>(
     source: &[u8],

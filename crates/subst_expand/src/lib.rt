@@ -1,6 +1,6 @@
-//! The expansion: parts are kept as a list, which is expanded over its source in one loop, or written as soon
-//! as they are parsed. Callers depend on `subst`, and not on this crate, whose public items are there for
-//! `subst_template`.
+//! The expansion of a source's parts, from a list or while parsing. A list is expanded over its source in one
+//! loop. Without a list, each part is written as soon as it is parsed. Callers depend on `subst`, and not on
+//! this crate, whose public items are for `subst_template`.
 #![tactic(auto)]
 
 mod append;

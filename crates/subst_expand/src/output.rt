@@ -1,4 +1,4 @@
-//! Outputs of an expansion: a `Vec` that grows, or a slice, past whose end bytes are only counted.
+//! Outputs of an expansion: a `Vec` that grows, or a slice. Bytes past the end of the slice are only counted.
 
 ghost use Rattle.std.specs.Prelude.{◌≡◌, ◌+◌, ◌<◌, ◌≤◌, ℕ, List, [], ◌∷◌, length, OnErr, OnOk};
 ghost use Rattle.subst_expand.specs.Output.{Puts};
@@ -74,7 +74,8 @@ pub struct SliceOutput<'r> {
     pub written: usize,
 }
 
-/// Contracts see a slice from its first state: it begins with the bytes written, and its rest is unchanged.
+/// Contracts compare a slice with its first state. If the bytes written fit, the slice begins with them, and
+/// its rest is unchanged.
 impl<'r> Output for SliceOutput<'r> {
     ghost use Rattle.std.specs.Prelude.{◌-◌, ◌^◌};
     ghost use Rattle.subst_expand.specs.SliceOutput.{SliceHolds, SliceAtFirst};

@@ -85,7 +85,8 @@ fn variable_at(source: &[u8], part: Part) -> Option<Variable<'_>>
     })
 }
 
-/// Returns `Optional` if `text`, after a variable's name, begins with a question mark, or else `WithDefault`.
+/// Returns `Optional` if `text` begins with a question mark, or else `WithDefault`. The text is the source
+/// after a variable's name.
 fn kind_before(text: &[u8]) -> VariableKind
     ensures { kind_of result ≡ parts.kind_before text.now }
 {

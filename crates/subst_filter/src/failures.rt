@@ -1,4 +1,4 @@
-//! Runs over `Hello $name!` whose reader or writer fails, at each call in turn.
+//! Tests of runs over `Hello $name!` in which the reader or the writer fails, at each of its calls in turn.
 
 use crate::runs::{CALLS, Call, Run};
 use std::alloc::{AllocError, Global};
@@ -31,7 +31,7 @@ fn expect_failed_reads(alloc: Global, call: Call, kind: ErrorKind) -> Result<(),
     Run { read, ..run(call) }.expect(alloc, "gives Hello world!")
 }
 
-/// Expects a run to fail if any write of one of the 12 bytes fails, or the flush.
+/// Expects a run to fail if the write of any of its 12 bytes fails, or if the flush fails.
 fn expect_failed_writes(alloc: Global, call: Call, kind: ErrorKind) -> Result<(), Fail> {
     for number in 0..13 {
         let write = Fault { call: number, kind };

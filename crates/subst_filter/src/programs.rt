@@ -175,7 +175,8 @@ fn missing_variable_of_a_source_is_printed(rt: HostRuntime) -> Result<(), Fail> 
     Ok(())
 }
 
-/// Expects each task, with the output `a1`, to have this end if these calls of its reader and writer fail.
+/// Expects each task to have this end if these calls of its reader and writer fail. Without failures, the
+/// output of each task is `a1`.
 fn expect_failure(alloc: Global, read: Fault, write: Fault, expected: &str) -> Result<(), Fail> {
     let lines: [&[&str]; 3] = [&["bytes", "A=1"], &["text", "A=1"], &["env"]];
     for line in lines {

@@ -1,4 +1,5 @@
-//! Runs over a source that is read one byte per call, and their ends.
+//! Helpers for tests of runs. The source of a run is read one byte per call, and its end is described in a
+//! text.
 
 use std::alloc::{AllocError, Global};
 use std::test::Fail;

@@ -30,7 +30,7 @@ fn characters_past_ascii_are_filled_in_or_refused(rt: HostRuntime) -> Result<(),
 
 #[test]
 fn bytes_that_are_no_text_are_refused(rt: HostRuntime) -> Result<(), Fail> {
-    // A byte that UTF-8 never has, a truncated character after a variable, and one before a fault.
+    // A byte that UTF-8 never has, and a truncated character after a variable or before a fault.
     let sources: [&[u8]; 3] = [b"\xFF", b"$b\xC3", b"\xC3$"];
     for source in sources {
         Run::new(Call::RunText, source, "b=❤").expect(rt.alloc(), "input is not UTF-8")?;
@@ -88,7 +88,7 @@ fn widest_highlighted_line_has_60_columns(rt: HostRuntime) -> Result<(), Fail> {
     expect_after(rt.alloc(), 60, "60..61: MissingVariableName\n")
 }
 
-/// Expects a fault to have the whole name of an unset variable, of `len` letters.
+/// Expects the fault of an unset variable to contain the variable's whole name of `len` letters.
 fn expect_name(alloc: Global, len: usize) -> Result<(), Fail> {
     let name = "n".repeat(alloc, len)?;
     let source = format!(in alloc; "${name}")?;

@@ -1,5 +1,4 @@
--- The result of a run of the filter and the bytes that it writes, by the answer for its source: an output or
--- a fault.
+-- The result of a run of the filter and the bytes that it writes, as the answer of its source requires.
 use Rattle.std.specs.Prelude.{ℕ, ⊤, ◌⊎◌, List, Option, IsSomeAnd, Result, Ok, Err}
 use Rattle.std.specs.Io.KnownBytes.{Appends}
 use Rattle.std.specs.Str.{IsUtf8}
@@ -61,7 +60,7 @@ Reports P _ = P
 abbrev pub ReportsText : Result (Unit {0}) RunError → List ℕ → Type 0
 ReportsText result source = Reports (IsUtf8 source) result
 
--- P holds if the run has read its source to the end, which is any run unless reading failed or memory ran out
+-- P holds, unless reading failed or memory ran out; any other run has read its source to the end
 abbrev pub OnceRead : Result (Unit {0}) RunError → Type 0 → Type 0
 OnceRead (Err Read) P = ⊤
 OnceRead (Err OutOfMemory) P = ⊤
@@ -77,7 +76,7 @@ abbrev pub UnlessWriteFails : {X : Type 0} → Result X RunError → Type 0 → 
 UnlessWriteFails (Err Write) P = ⊤
 UnlessWriteFails _ P = P
 
--- P holds if the run can't have written anything, which is any run unless it is done or writing failed
+-- P holds, unless the run is done or writing failed; no other run can have written anything
 abbrev pub UnlessWriting : Result (Unit {0}) RunError → Type 0 → Type 0
 UnlessWriting (Ok done) P = ⊤
 UnlessWriting (Err Write) P = ⊤

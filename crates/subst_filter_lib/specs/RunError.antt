@@ -9,7 +9,7 @@ use Rattle.subst_filter_lib.specs.declared.run_error.RunError.{RunError}
 use Rattle.subst_filter_lib.specs.declared.run_error.RunError.TheVariants.{Read, Write, NotUtf8, Subst, OutOfMemory}
 use Rattle.subst_filter_lib.specs.declared.status.TheConstants.{REFUSED, DEVICE_FAILED, OUT_OF_MEMORY}
 
--- the error of a read is right: a failed read if the input has `failed`, or out of memory
+-- the error of a read is right: a failed read, and the input has `failed`; or out of memory
 abbrev pub IsReadFault : Bool → RunError → Type 0
 IsReadFault failed Read = failed ≡ true
 IsReadFault failed OutOfMemory = ⊤

@@ -17,8 +17,8 @@ pub trait ByteInput {
     // Whether an earlier call of this input has returned `Failed`.
     ghost has_failed: { Self → Bool };
 
-    /// Reads the next bytes into the start of `buf`, and returns their number. The number is 0 exactly at the
-    /// end of the input, or if `buf` is empty.
+    /// Reads the next bytes into the start of `buf`, and returns their number. The number is 0 at the end of
+    /// the input or if `buf` is empty, and only then.
     ///
     /// # Errors
     ///

@@ -1,7 +1,7 @@
 //! Runs of the filter over any input and output device.
 //!
-//! A run reads its source to the end, expands it, and only then writes. The runs are in the child modules,
-//! and the functions that both use are here.
+//! A run reads its source to the end, expands it, and only then writes. The runs, [`run_bytes`] and
+//! [`run_text`], are in the child modules. The functions that both use are here.
 
 ghost use Rattle.std.specs.Prelude.{◌≡◌, true, IfOk, IfErr, OnOk, OnErr, MatchOption};
 ghost use Rattle.std.specs.Io.KnownBytes.{Appends};

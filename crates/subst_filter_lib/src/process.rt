@@ -17,8 +17,8 @@ use std::process::ExitCode;
 use std::{env, io};
 
 /// Runs the program with the arguments of its command line, its environment and its standard streams. Returns
-/// the exit status: as [`run_program`], or [`RunError::status`] of the error if arguments or environment
-/// can't be read. The environment is read only if the sole argument is `env`.
+/// the exit status of [`run_program`]. If the arguments or the environment can't be read, returns
+/// [`RunError::status`] of that error instead. The environment is read only if the sole argument is `env`.
 pub fn run(rt: &HostRuntime) -> ExitCode
     ensures statuses { exit_status result ≤ OUT_OF_MEMORY }
 {

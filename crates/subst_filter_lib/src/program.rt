@@ -103,12 +103,12 @@ fn run_task<I: ByteInput, O: ByteOutput>(
     input: &mut I,
     output: &mut O,
 ) -> Result<(), RunError>
-    // The bytes that were written are the answer of the source.
+    // The result and the bytes that were written agree with the answer of the source.
     ensures answer { IfSome (I.left input.old) (λ source. RunAnswers source
         (look_up_of_task task arguments.now pairs.now)
         result (O.written output.old) (O.written output.new)) }
 
-    // The task accepts the source, or the result is that it doesn't.
+    // The result reports whether the task accepts the source, unless reading failed or memory ran out.
     ensures source { IfSome (I.left input.old) (λ source. Reports (Accepts task source) result) }
 
     ensures whole { OnceRead result (ReadsAll (I.left input.old) (I.left input.new)) }

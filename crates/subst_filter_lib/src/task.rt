@@ -17,9 +17,9 @@ pub enum Task {
 impl Task {
     ghost use Rattle.subst_filter_lib.specs.Task.{task_of};
 
-    /// Returns the task that the arguments after the program's name state, or `None` if they are wrong. They
-    /// are right if the first one is `bytes` or `text` and all others have the form NAME=VALUE, or if the
-    /// only one is `env`.
+    /// Returns the task of the arguments after the program's name, or `None` if they are wrong. They are
+    /// right if the first one is `bytes` or `text` and all others have the form NAME=VALUE, or if the only
+    /// one is `env`.
     pub fn of_arguments(arguments: &[String]) -> Option<Task>
         ensures task { result ≡ task_of arguments.now }
     {

@@ -26,7 +26,7 @@ abbrev pub unplaced : Value → Given
 unplaced (Bytes x) = Ok x
 unplaced (Missing position name) = Err name
 
--- the name doesn't begin with a digit, as no name in a shell does
+-- the name doesn't begin with a digit, as a shell requires
 abbrev pub IsShellName : List ℕ → Type 0
 IsShellName = BeginsWithNo (λ b. IsTrue (is_ascii_digit b))
 

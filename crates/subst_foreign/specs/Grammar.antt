@@ -30,7 +30,7 @@ is_whole of.Shell all = all
 is_whole of.Common all = true
 is_whole _ all = false
 
--- n is a name in texts of these forms; in all but own forms, a name doesn't begin with a digit
+-- n is a name in texts of these forms; unless the forms are `Own`, n doesn't begin with a digit
 abbrev pub IsNameOf : Forms → List ℕ → Type 0
 IsNameOf of.Own n = IsName n
 IsNameOf _ n = IsName n × IsShellName n
@@ -83,7 +83,8 @@ abbrev pub BeginsWithNone : List ℕ → List ℕ → Type 0
 BeginsWithNone bytes [] = Unit {0}
 BeginsWithNone bytes (b ∷ s) = AllByRecursion (λ other. b ≢ other) bytes
 
--- the text x may follow the operator: after the `:` of own forms it doesn't begin with `-`, `=`, `?` or `+`
+-- the text x may follow the operator; after `:`, the operator of the forms `Own`, x doesn't begin with `-`,
+-- `=`, `?` or `+`
 abbrev pub IsStart : Operator → List ℕ → Type 0
 IsStart operator.Default x = BeginsWithNone (codes "-=?+") x
 IsStart _ x = Unit {0}
@@ -108,8 +109,8 @@ head_text (Braced n) = in_braces n (closing_brace ∷ [])
 head_text (Optional n) = in_braces n (question_mark ∷ closing_brace ∷ [])
 head_text (Opened n op) = in_braces n (operator_text op)
 
--- The head is one of the grammar before the text x. Its name, if any, is chosen. After a name without braces,
--- x begins with no name byte, and after an operator, x may follow the operator.
+-- The head, with the text x after it, belongs to the grammar. Its name, if any, is chosen. After a name
+-- without braces, x doesn't begin with a name byte. After an operator, x begins as `IsStart` allows.
 abbrev pub IsHead : Grammar → Head → List ℕ → Type 0
 IsHead g Dollar x = IsTrue (is_whole g.forms g.all)
 IsHead g (Short n) x = IsVariable g false n × BeginsWithNo IsNameByte x
@@ -125,7 +126,7 @@ BeginsWithNoHead g s = (h : Head) (x : List ℕ) → s ≡ head_text h ++ x → 
 abbrev pub IsNoBrace : ℕ → Type 0
 IsNoBrace b = (b ≢ opening_brace) × (b ≢ closing_brace)
 
--- the bytes close as many earlier braces as the number, and each brace that they open themselves
+-- the bytes close every brace that they open, and this number of earlier ones
 pub data ClosesBraces : ℕ → List ℕ → Type 0 where
   nothing : ClosesBraces 0 []
   byte : {d b : ℕ} {m : List ℕ} → IsNoBrace b → ClosesBraces d m → ClosesBraces d (b ∷ m)
@@ -156,7 +157,7 @@ abbrev pub IsOtherEnd : Forms → List ℕ → Type 0
 IsOtherEnd forms x = ((y : List ℕ) → ¬ (x ≡ closing_brace ∷ y))
     × ((op : Operator) (y : List ℕ) → IsTrue (has_operator forms op) → ¬ (x ≡ operator_text op ++ y))
 
--- the text after a name in braces by which the form is recognized; empty for the other forms
+-- the text that identifies the refused form, right after a name in braces; empty if the form has no such text
 abbrev pub form_text : ShellForm → List ℕ
 form_text form.Minus = codes "-"
 form_text form.Question = codes "?"
@@ -169,9 +170,10 @@ form_text form.ColonEquals = codes ":="
 form_text form.ColonPlus = codes ":+"
 form_text _ = []
 
--- The text x after a name in braces has the refused form. For `Unclosed`, x is empty. For `Colon`, x begins
--- with a colon that begins no longer form, and for `Other`, with a byte that begins no other form. For a form
--- with a `form_text`, x begins with that text. No x has the form `Dollar`, `NoName`, `Message` or `Brace`.
+-- The text x after a name in braces has the refused form. x is empty for `Unclosed`, and begins with the
+-- `form_text` of a form that has one. For `Colon`, x begins with a colon, and none of `-`, `?`, `=` and `+`
+-- follows it. For `Other`, x begins with a byte that is no name byte and none of `}:-?=+#%/`. No x has the
+-- form `Dollar`, `NoName`, `Message` or `Brace`.
 abbrev pub HasForm : ShellForm → List ℕ → Type 0
 HasForm form.Unclosed x = x ≡ []
 HasForm form.Colon x = (y : List ℕ) × (x ≡ colon ∷ y) × BeginsWithNone (codes "-?=+") y
@@ -192,10 +194,10 @@ abbrev pub GoesOn : Grammar → ShellForm → List ℕ → Type 0
 GoesOn g form s = IsTrue (is_whole g.forms g.all) × ((n x : List ℕ) × IsName n × IsShellName n
     × (s ≡ in_braces n x) × BeginsWithNo IsNameByte x × IsOtherEnd g.forms x × HasForm form x)
 
--- The text, in a default or not, begins with a refused form. With any forms, a message that never closes is
--- refused. In all but a shell's forms, so is an opening brace in a default. If `is_whole` holds, so are `${`
--- without a name, and a name in braces before a text that may not follow it. In common forms, so are a dollar
--- that begins nothing, and a message with an opening brace.
+-- The text, in a default or not, begins with this refused form. A message that never closes is refused in any
+-- forms, and an opening brace in a default is refused in all but a shell's forms. If `is_whole` holds, `${`
+-- is refused unless a name follows, and then a closing brace or an operator. Common forms also refuse a
+-- dollar that begins nothing, and an opening brace in a message.
 abbrev pub IsRefused : Grammar → (inside : Bool) → ShellForm → List ℕ → Type 0
 IsRefused g inside form.Brace s =
     IsTrue inside × (g.forms ≢ of.Shell) × ((x : List ℕ) × (s ≡ opening_brace ∷ x))

@@ -27,7 +27,7 @@ use Rattle.subst_language.specs.Language.Tree.{item_text}
 abbrev pub grammar_of : {N : Type 0} → (N → Bool) → (N → Bool → List ℕ → Type 0) → Style N → Grammar
 grammar_of all Has style = grammar style.forms (all style.names.now) (Has style.names.now)
 
--- A token of a text: a byte, a whole head, a head before a text or with its message, a brace inside a
+-- A token of a text: a byte, a whole head, a name with its operator and perhaps a message, a brace inside a
 -- default, or a refused form's beginning.
 pub data Token : Type 0 where
   Byte : ℕ → Token
@@ -57,13 +57,13 @@ IsFront form.NoName front x = front ≡ dollar ∷ opening_brace ∷ []
 IsFront form.Unclosed front x = x ≡ []
 IsFront _ front x = (n : List ℕ) × IsName n × BeginsWithNo IsNameByte x × (front ≡ in_braces n [])
 
--- the text at which reading resumes after an unclosed message: `after`, which follows the name, or the end of
--- the text if the message never closes
+-- the text at which reading resumes after a refused message: the empty text if the message never closes, or
+-- else `after`, which follows the name
 abbrev pub after_message : ShellForm → List ℕ → List ℕ
 after_message form.Unclosed after = []
 after_message _ after = after
 
--- The token is one of the grammar at this depth, before the text x.
+-- The token, with the text x after it, belongs to the grammar at this depth.
 abbrev pub IsToken : Grammar → (depth : ℕ) → Token → (x : List ℕ) → Type 0
 IsToken g depth (Byte b) x = IsByte g (is_inside depth) b x
 IsToken g depth (Whole head) x = IsWhole head × IsHead g head x
@@ -226,6 +226,6 @@ abbrev pub written_operator : Option Operator → List ℕ
 written_operator None = []
 written_operator (Some op) = operator_text op
 
--- the end of a variable without its closing brace: the end of its name, or of its operator and message
+-- the position after a variable's name and, if present, its operator and message
 abbrev pub end_of : VariableAt → ℕ
 end_of v = v.position + length v.name + length (written_operator v.operator) + length v.message

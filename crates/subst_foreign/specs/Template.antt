@@ -1,4 +1,5 @@
--- Templates for texts of other tools: their items for the items of a text, and their values.
+-- Templates for texts of other tools: the conversion of a text's items and names, and the values of the
+-- templates.
 use Rattle.std.specs.Prelude.{◌≡◌, ◌==◌, ◌||◌, if◌then◌else◌, ℕ, Bool, true, false, List, [], ◌∷◌, Ok, Err, Option, Some, None, map}
 use Rattle.std.specs.Char.{is_ascii_digit}
 use Rattle.subst_foreign.specs.Foreign.{Given, unplaced}
@@ -46,7 +47,8 @@ abbrev pub item_of_name : (in_braces : Bool) → List ℕ → Item
 item_of_name true n = Braced n
 item_of_name false n = Short n
 
--- the template's item for the variable n without an operator, which is `item` in the text
+-- the template's item for the variable n without an operator; `item` is the item that is spelled as in the
+-- text
 abbrev pub plain_item : Forms → Missing → Item → List ℕ → Item
 plain_item of.Common unset item n = Optional n
 plain_item of.Shell missing.Fault item n = Braced (value_of ∷ n)
@@ -88,12 +90,12 @@ abbrev pub without_question : List ℕ → List ℕ
 without_question [] = []
 without_question (b ∷ n) = if is_ascii_digit b then n else b ∷ n
 
--- the name that a variable has in the text, by the name under which the template looks it up
+-- the variable's name in the text, from the name n under which the template looks it up
 abbrev pub text_name : Forms → List ℕ → List ℕ
 text_name of.Shell n = without_question n
 text_name _ n = n
 
--- the value of a template, with a missing variable's name as in the text
+-- a template's value; a missing name is replaced by the variable's name in the text
 abbrev pub renamed : Forms → Given → Given
 renamed forms (Ok x) = Ok x
 renamed forms (Err n) = Err (text_name forms n)
@@ -103,7 +105,8 @@ abbrev pub template_name_of : Forms → Variable → List ℕ
 template_name_of forms variable = template_name forms variable.operator variable.name
 
 -- `source` is a template for the text s. The text is read as items, and `source` is a sentence. Under each
--- look-up both have the same value or missing name, and they have the same variables, in one order.
+-- look-up, s and `source` have the same value or missing name. They have the same variables, in the same
+-- order.
 pub record IsTemplate (g : Grammar) (unset : Missing) (s source : List ℕ) : Type 0 where
   pub items : Text
   pub read : IsText g false items []

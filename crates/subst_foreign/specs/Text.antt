@@ -46,8 +46,8 @@ abbrev mutual
   spelling Empty = []
   spelling (Then item rest) = item_spelling item ++ spelling rest
 
--- b is a literal byte before the text x: no head begins with it, no form is refused there, and in a default
--- it isn't a brace
+-- b is a literal byte before the text x: no head begins at b, no form is refused there, and in a default b
+-- isn't a brace
 pub record IsByte (g : Grammar) (inside : Bool) (b : ℕ) (x : List ℕ) : Type 0 where
   pub no_head : BeginsWithNoHead g (b ∷ x)
   pub taken : (form : ShellForm) → ¬ (IsRefused g inside form (b ∷ x))
@@ -59,7 +59,7 @@ IsWhole (Opened n op) = ⊥
 IsWhole head = Unit {0}
 
 abbrev mutual
-  -- the item is one of the grammar before the text x; `inside` is whether it is in a default
+  -- the grammar allows this item before the text x; `inside` is whether the item is in a default
   pub IsItem : Grammar → (inside : Bool) → Item → (x : List ℕ) → Type 0
   IsItem g inside (Byte b) x = IsByte g inside b x
   IsItem g inside (Whole head) x = IsWhole head × IsHead g head x
@@ -69,7 +69,8 @@ abbrev mutual
       × IsHead g (Opened n op) (m ++ closing_brace ∷ x) × IsMessage g.forms m
   IsItem g inside (Group t) x = IsTrue inside × (g.forms ≡ of.Shell) × IsText g true t (closing_brace ∷ x)
 
-  -- the items are a text of the grammar before the text x; `inside` is whether it is in a default
+  -- the grammar allows a text of these items before the text x; `inside` is whether the items are in a
+  -- default
   pub IsText : Grammar → (inside : Bool) → Text → (x : List ℕ) → Type 0
   IsText g inside Empty x = Unit {0}
   IsText g inside (Then item rest) x = IsItem g inside item (spelling rest ++ x) × IsText g inside rest x
@@ -131,7 +132,7 @@ pub record Variable : Type 0 where
   pub operator : Option Operator
 
 abbrev mutual
-  -- the variables of an item: its own, and those of the text after its operator
+  -- the variables of an item: its own, and those of the text inside it
   pub item_variables : Item → List Variable
   item_variables (Whole (Short n)) = record { name = n; operator = None } ∷ []
   item_variables (Whole (Braced n)) = record { name = n; operator = None } ∷ []

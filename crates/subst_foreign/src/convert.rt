@@ -39,7 +39,7 @@ pub(crate) fn convert<N: Names>(
 {
     let mut template = Vec::with_capacity(alloc, text.len())?;
     let mut refused = Vec::new(alloc);
-    // The end of the text that isn't in the template yet.
+    // The part of the text that has yet to be appended to the template.
     let mut pending = text;
     let mut rest = text;
     let mut depth = 0;
@@ -62,7 +62,8 @@ pub(crate) fn convert<N: Names>(
     Ok(Converted { template, refused })
 }
 
-/// Returns the offset of the outermost open variable after a token: `position` at depth 0, or `outermost`.
+/// Returns the offset of the outermost open variable after a token at `position`. At depth 0 this is
+/// `position`, and at any other depth still `outermost`.
 fn outermost_at(depth: usize, outermost: usize, position: usize) -> usize
     ensures { result ≡ spec_outermost depth outermost position }
 {
@@ -85,7 +86,8 @@ pub(crate) fn next_step<'t, N: Names>(
     Some((special, step_at(special, depth, style)))
 }
 
-/// Returns the index of the first `$` or `\`, or of a brace if `depth` isn't 0, or `None` if there is none.
+/// Returns the index of the first special byte, or `None` if there is none. `$` and `\` are special, and so
+/// are braces if `depth` isn't 0.
 fn find_special(text: &[u8], depth: usize) -> Option<usize>
     ensures some { IfSome result (λ at. AllByRecursion (IsPlainAt depth) (take at text.now)) }
     ensures within { IfSome result (λ at. at < length text.now) }

@@ -8,8 +8,8 @@ ghost use Rattle.subst_language.specs.Language.Escaped as language;
 
 use std::alloc::{AllocError, Global};
 
-/// Returns the text with a backslash before each `\`, `$`, `{`, `}` and `:`. The result expands to the text,
-/// whatever the variables, as a template or in a default.
+/// Returns the text with a backslash before each `\`, `$`, `{`, `}` and `:`. As a template or in a default,
+/// the result expands to the text, whatever the variables.
 ///
 /// # Errors
 ///

@@ -61,7 +61,8 @@ where
     }
 }
 
-/// Looks up the bytes of the answer if the name is a question, or else of its value, unless that is empty.
+/// Looks up the bytes of the answer if the name is a question. Any other name has the bytes of its value,
+/// unless that value is empty.
 impl<'a, M: BytesMap<'a>> BytesMap<'a> for ShellMap<'a, M>
 where
     M::Value: AsSlice<u8> + Drop,

@@ -62,8 +62,8 @@ impl<'n, N: Names> Style<'n, N> {
         }
     }
 
-    /// Lists the refused forms of a text, in order. Reading resumes after the beginning of each, except after
-    /// a message that never closes. An unclosed variable comes last.
+    /// Lists the refused forms of a text, in order. Reading resumes after the beginning of each form, but
+    /// ends at a message that never closes. An unclosed variable comes last.
     ///
     /// # Errors
     ///
@@ -75,7 +75,7 @@ impl<'n, N: Names> Style<'n, N> {
         Ok(convert(alloc, source, *self)?.refused)
     }
 
-    /// Returns whether `$$` is a dollar, and `${` is refused if it begins none of the style's forms.
+    /// Returns whether `$$` is a dollar and a `${` that begins none of the style's forms is refused.
     pub(crate) fn is_whole(&self) -> bool
         ensures { result ≡ is_whole self.now.forms (N.all self.now.names.now) }
     {

@@ -169,8 +169,9 @@ fn head_step<'t, N: Names>(
     }
 }
 
-/// Returns the token of `${` that begins no variable, and the text after the token. `text` follows the
-/// dollar: a brace, `name`, which may be empty, and `after`. `is_other` is whether `after` ends no variable.
+/// Returns the token of a `${` that begins no variable, and the text after the token. `text` follows the
+/// dollar. It consists of a brace, `name` and `after`; `name` may be empty. `is_other` is whether the end at
+/// the start of `after` is `End::Other`.
 fn lone_brace_step<'t, N: Names>(
     text: &'t [u8],
     name: &'t [u8],
@@ -199,7 +200,8 @@ fn lone_brace_step<'t, N: Names>(
     }
 }
 
-/// Returns the token of a name in braces with an operator. `after` follows `name`, and `rest` the operator.
+/// Returns the token of a name in braces with an operator. `after` follows `name`, and `rest` follows the
+/// operator.
 fn operated_step<'t, N: Names>(
     name: &'t [u8],
     operator: Operator,
@@ -221,7 +223,7 @@ fn operated_step<'t, N: Names>(
     }
 }
 
-/// Returns the text at which reading resumes after an unclosed message: the empty text if the message never
+/// Returns the text at which reading resumes after a refused message. It is empty if the message never
 /// closes, or else `after`, which follows the name.
 fn rest_of_message(form: ShellForm, after: &[u8]) -> &[u8]
     ensures { result.now ≡ after_message form after.now }
@@ -275,7 +277,8 @@ fn end_at(text: &[u8], forms: Forms) -> End<'_>
     }
 }
 
-/// Returns the end of a variable of own forms that isn't a closing brace.
+/// Returns the end of a variable of `Forms::Own`. `text` follows the variable's name, and doesn't begin with
+/// a closing brace.
 fn own_end_at(text: &[u8]) -> End<'_>
     requires { (x : List ℕ) → ¬ (text.now ≡ closing_brace ∷ x) }
     ensures { IsEnd Own text.now result }

@@ -5,6 +5,6 @@ use Rattle.subst_document.specs.Stays.{AreValues}
 use Rattle.subst_json.specs.Filled.{strings_in}
 use Rattle.subst_json.specs.declared.compared.RemainingStrings.{RemainingStrings}
 
--- `left` has the new values of those strings among the tokens `ts` that change
+-- `left` has the new value of each changing string among the tokens `ts`
 abbrev pub AreRemaining : (List ℕ → List ℕ → Type 0) → RemainingStrings → List Token → Type 0
 AreRemaining Becomes left ts = AreValues Becomes left.index (strings_in ts) left.list.now left.text.now

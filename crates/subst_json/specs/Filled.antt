@@ -7,7 +7,7 @@ use Rattle.serde_json.specs.Read.{number_of}
 use Rattle.subst_document.specs.Edits.{IsFilledText}
 use Rattle.subst_json.specs.Places.{HasQuotes, IsTokenOf}
 
--- the string of a token in a list, or an empty list for any other token, such as a key
+-- a list of the token's string, or the empty list for a token that isn't a string, such as a key
 abbrev pub strings_of_token : Token → List (List ℕ)
 strings_of_token (string s) = s ∷ []
 strings_of_token begin_object = []

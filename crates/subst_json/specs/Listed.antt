@@ -15,15 +15,15 @@ use Rattle.subst_json.specs.Filled.{strings_of_token, strings_in, IsStringToken}
 use Rattle.subst_json.specs.Paths.{steps_of}
 use Rattle.subst_json.specs.declared.path.Path.{Path}
 
--- From the path to a value, the path to the part after it: in an array, the next item. Paths have their last
--- step first here.
+-- The path to the part after a value, from the path to the value. In an array, that part is the next item.
+-- Here, paths have their last step first.
 abbrev pub past_value : List PathStep → List PathStep
 past_value [] = []
 past_value (Key k ∷ path) = Key k ∷ path
 past_value (Index i ∷ path) = Index (i + 1) ∷ path
 
--- From the path to a token, the path to the next token. In an object, the last step is the latest key, or an
--- empty key before the first.
+-- The path to the next token, from a token and its path. In an object, the last step is the latest key, or an
+-- empty key before the first key.
 abbrev pub past_token : Token → List PathStep → List PathStep
 past_token begin_object path = Key [] ∷ path
 past_token begin_array path = Index 0 ∷ path
@@ -40,11 +40,11 @@ past_token bad path = past_value path
 abbrev pub located : List PathStep → List ℕ → Located
 located path s = record { path = path; text = s }
 
--- the token's string and its path in a list, which is empty if the token isn't a string
+-- a list of the token's string with its path, or the empty list if the token isn't a string
 abbrev pub located_at : List PathStep → Token → List Located
 located_at path t = map (located (reverse path)) (strings_of_token t)
 
--- the strings among these tokens and their paths, if this path leads to the first token
+-- the strings among these tokens, each with its path, if `path` leads to the first token
 abbrev pub located_in : List PathStep → List Token → List Located
 located_in path [] = []
 located_in path (t ∷ ts) = located_at path t ++ located_in (past_token t path) ts
@@ -73,8 +73,8 @@ plain_token (boolean b) = boolean b
 plain_token null = null
 plain_token bad = bad
 
--- These spans are those of all strings of `source`, and of nothing else: if each span is replaced by `null`,
--- the tokens are those of `source`, but `null` for each string.
+-- These spans are those of all strings of `source`, and of nothing else. If each span is replaced by `null`,
+-- each string becomes the token `null`, and all other tokens stay.
 abbrev pub AreExact : (source : List ℕ) → List StringAt → Type 0
 AreExact source list =
     tokens (with_plain (λ _. codes "null") source 0 0 list) ≡ map plain_token (tokens source)
@@ -91,9 +91,10 @@ abbrev pub IsPathTo : (source : List ℕ) → ℕ → Path → Type 0
 IsPathTo source index path =
     slice_get (map (λ it. it.path) (located_in [] (tokens source))) index ≡ Some (steps_of path)
 
--- `left` and `with` are the refusals `rest` and the `paths` after a token. `strings` has the token's string,
--- if it is one, with the index `index` and the path `steps`. Either both lists stay, or the string is the
--- first of `rest`, and its path is appended.
+-- After one token, the refusals `rest` have become `left`, and the `paths` have become `with`. `strings` has
+-- the token's string, or is empty if the token isn't a string. `index` and `steps` are the string's index and
+-- path. Either both lists are unchanged, or the string is the first of `rest`: then `left` lacks it, and its
+-- path is appended.
 abbrev pub IsCollected : List PathStep → List (List ℕ) → ℕ → (rest left : List (found.RefusalAt ℕ))
     → (paths with : List Path) → Type 0
 IsCollected steps strings index rest left paths with =
@@ -111,7 +112,7 @@ AreRefused ask source all =
 pub record AreAllRefused (ask : List ℕ → Answer → Type 0) (source : List ℕ) (all : List RefusalAt) : Type 0 where
   -- each has the span and the path of the string
   pub each : AreRefused ask source all
-  -- they are the refusals of all strings, and no other string is refused
+  -- they are the refusals of the text's strings, in order; each other string has an output
   pub refused : AreRefusals ask (located_in [] (tokens source)) (map refusal_at all)
   pub spelled : AreSpelled IsStringToken source 0 (map string_of all)
   pub range : AllByRecursion HasRangeInText (map refusal_at all)

@@ -1,4 +1,4 @@
--- The remaining tokens of a text, by what is expected.
+-- The remaining tokens of a text, described by the parts that are expected.
 use Rattle.std.specs.Prelude.{◌≡◌, ◌≤◌, ◌+◌, ℕ, List, [], ◌∷◌, ◌++◌, length, reverse}
 use Rattle.json.specs.Json.{Json}
 use Rattle.json.specs.Token.{Token}
@@ -13,7 +13,7 @@ abbrev pub AreOfValue : List Token → Type 0
 AreOfValue ts = (j : Json) × (ts ≡ json_tokens j) × (depth j ≤ max_depth)
 
 -- The tokens `ts` begin with the tokens of a value, of items or of members, and `More` holds of the rest.
--- With `outer` open brackets around them, they nest no deeper than the reader allows.
+-- With the `outer` open brackets around it, this beginning nests no deeper than the reader allows.
 abbrev pub Begins : {T : Type 0} → (T → List Token) → (T → ℕ) → ℕ → (List Token → Type 0) → List Token → Type 0
 Begins {T} tokens_of depth_of outer More ts = (it : T) × (rest : List Token) × (ts ≡ tokens_of it ++ rest)
     × (depth_of it + outer ≤ max_depth) × More rest

@@ -56,7 +56,7 @@ abbrev pub ReturnsTree : {V Seen : Type 0} → (V → List ℕ) → (V → Seen)
 ReturnsTree items see look_up s result = IfOk result
     (λ tree. ReadsAsTree s (λ d. IsEach (GivesBy (AnswersText items see look_up)) d (view tree)))
 
--- a call that succeeds returns the value into which the tree of the text s, filled in, is converted
+-- a call that succeeds returns the value into which the filled-in tree of the text s is converted
 abbrev pub ReadsType : {V Seen T : Type 0} → (V → List ℕ) → (V → Seen) → (List ℕ → Option Seen)
     → (Data → Result T reading.Error → Type 0) → List ℕ → Result T Error → Type 0
 ReadsType items see look_up Reads s result = IfOk result

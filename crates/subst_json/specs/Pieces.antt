@@ -1,4 +1,5 @@
--- Spans of many ranges of one string. Each piece of the string's token is read by itself.
+-- The spans in a JSON text that spell many ranges of one string. Each piece of the string's token is read by
+-- itself.
 use Rattle.std.specs.Prelude.{◌<◌, ◌≤◌, ◌+◌, ℕ, List, [], ◌∷◌, ◌++◌, slice_range}
 use Rattle.std.specs.declared.ops.Range.{Range}
 use Rattle.subst_error.specs.Range.{IsRangeIn}

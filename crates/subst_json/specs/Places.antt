@@ -17,8 +17,8 @@ HasQuotes token = (slice_index token 0 ≡ 34) × (slice_index token (length tok
 abbrev pub IsSpelledUntil : List ℕ → ℕ → ℕ → List ℕ → Type 0
 IsSpelledUntil s start place x = IsTokenOf (slice_range s start place ++ 34 ∷ []) x
 
--- `place` is the span, in the text s, that spells `range` of the string whose token is at `token`. Up to the
--- start and the end of `place`, the token spells the string up to the start and the end of `range`.
+-- `place` is the span, in the text s, that spells `range` of the string whose token is at `token`. The token
+-- up to the start of `place` spells the string up to the start of `range`, and likewise for the ends.
 pub record IsPlaceIn (s : List ℕ) (token range place : Range ℕ) : Type 0 where
   pub within : IsRangeIn s place
   pub after_start : token.start ≤ place.start

@@ -19,9 +19,9 @@ use json::{Reader, Scratch, Token};
 use std::alloc::{AllocError, Global};
 use subst_document::{ChangedValues, Fill, ValueAt};
 
-/// Returns whether `output` is `source` with its strings filled in, token by token. `source` has to be one
-/// value, with nesting and numbers in the range of the reader of trees. `values` are the new values of the
-/// strings that change: `filler` isn't called again.
+/// Returns whether `output` is `source` with its strings filled in, token by token. The result is `false` if
+/// `source` isn't one value, or if its nesting or a number exceeds the limits of the reader of trees.
+/// `values` are the new values of the strings that change, so `filler` isn't called again.
 pub(crate) fn is_filled<F: Fill>(
     alloc: Global,
     source: &str,

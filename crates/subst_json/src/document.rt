@@ -25,7 +25,7 @@ use subst_document::{Fill, Filled, Filler};
 use subst_language::VariableMap;
 
 /// Returns a JSON text with its strings filled in from `variables`, whose values are texts. Every other byte
-/// is kept: white space, keys and their order, equal keys, and the spelling of numbers and of each string
+/// is kept: white space, keys and their order, repeated keys, and the spelling of numbers and of each string
 /// that doesn't change. In a string that changes, only the placeholders are rewritten. If several members
 /// have the same key, the string of each is filled in.
 ///
@@ -127,7 +127,7 @@ fn confirmed<F: Fill>(
     }
 }
 
-/// Returns `output`, the text of a source in which no string changes, if `source` is JSON.
+/// Returns `output` if `source` is JSON. `output` is the text of `source`, in which no string changes.
 ///
 /// # Errors
 ///
@@ -144,7 +144,8 @@ fn unchanged(alloc: Global, source: &str, output: String) -> Result<Option<Strin
     Ok(Some(output))
 }
 
-/// Returns `None`, the result for a source whose filled-in text isn't confirmed, if the source is JSON.
+/// Returns `None` if the source is JSON. `None` is the result for a source whose filled-in text isn't
+/// confirmed.
 ///
 /// # Errors
 ///

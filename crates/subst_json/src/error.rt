@@ -9,7 +9,8 @@ use std::fmt;
 pub enum Error {
     /// The text isn't JSON, or the filled-in tree doesn't fit the type that the call returns.
     Json(serde_json::Error),
-    /// A string of the tree is refused, never for `OutOfMemory`. Positions are byte offsets in that string.
+    /// A string of the tree is refused. The error is never `OutOfMemory`, and its positions are byte offsets
+    /// in the string.
     Subst(subst_error::Error),
     /// An allocation failed.
     OutOfMemory(AllocError),
@@ -75,8 +76,8 @@ impl fmt::Display for Error {
 
     ghost output = { display_of_json };
 
-    // `writes` states no text that quotes a character past ASCII, since that has two forms. If a string is
-    // refused, `text` states the error's text, with one of these forms.
+    // `writes` doesn't state a text that quotes a non-ASCII character, which may be escaped or not. If a
+    // string is refused, `text` states that the error's text has one of these two forms.
     fn fmt<W: fmt::Write>(&self, f: &mut fmt::Formatter<W>) -> fmt::Result
         ensures writes { DisplaysOnOk W.write_str_gives f.old result
             (display_of_json self.now) f.new }

@@ -5,7 +5,8 @@
 //! error is that of the first refused string.
 //!
 //! [`substitute_string_values`] fills in a tree in place. [`value_from_str`] and [`value_from_slice`] read a
-//! tree first. [`from_str`] and [`from_slice`] then convert it into a type of the caller's, by `serde`.
+//! tree first. [`from_str`] and [`from_slice`] also convert the filled-in tree into a type of the caller's,
+//! by `serde`.
 //!
 //! [`fill_in`], [`fill_in_slice`] and [`fill_in_by`] fill in the strings of a text, and keep every other byte
 //! of it. [`strings`] lists the strings of a text, and [`refusals_in`] the refused ones.
@@ -116,7 +117,7 @@ where
     ensures ok { ReturnsTree M.Value.text M.see (M.look_up variables.now) source.now result }
     ensures json { OnJson result (read source.now ≡ None) }
 
-    // The error is of a text that isn't a tree, and not of a type.
+    // A `Json` error is about the text, and never about a type that the tree doesn't fit.
     ensures kind { IfJson result IsOfText }
     ensures subst { StatesFirst M.Value.text M.see (M.look_up variables.now) source.now result }
     ensures range { OnSubst result HasRange }
@@ -179,7 +180,7 @@ where
     // The result of the conversion for the tree with its strings filled in.
     ensures ok { ReadsType M.Value.text M.see (M.look_up variables.now) T.reads source.now result }
 
-    // `Json` is the reader's error, of a text that isn't a tree, or that of the conversion.
+    // `Json` is either the reader's error for a text that isn't JSON, or the error of the conversion.
     ensures json { IfJson result (λ e. ((read source.now ≡ None) × IsOfText e)
         ⊎ ReadsAsTree source.now (λ d. IsReadFilledIn
         (AnswersText M.Value.text M.see (M.look_up variables.now)) T.reads d (Err e))) }

@@ -33,9 +33,9 @@ pub fn strings(alloc: Global, source: &str) -> Result<Option<Vec<StringAt>>, Err
     Ok(listed(alloc, source)?)
 }
 
-/// Lists in document order the strings of `source`, a JSON text, that are refused if it is filled in from
-/// `variables`, whose values are texts. Each span is read again before it is returned. The result is `None`
-/// if this check fails; no text is known for which the check fails.
+/// Lists in document order the strings of `source`, a JSON text, that are refused when filled in from
+/// `variables`. The values of `variables` are texts. Each span is read again before it is returned. The
+/// result is `None` if this check fails; no text is known for which the check fails.
 ///
 /// # Errors
 ///

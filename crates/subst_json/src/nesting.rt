@@ -14,7 +14,7 @@ use std::alloc::{AllocError, Global};
 /// The maximum nesting depth of arrays and objects, as in the reader of trees.
 const MAX_DEPTH: usize = 127;
 
-/// The next part that may begin in a text.
+/// An expected part of a text.
 #[derive(Clone, Copy)]
 enum Expected {
     /// The value of the text.
@@ -110,7 +110,8 @@ impl Nesting {
         true
     }
 
-    /// Opens an array or object, where `inside` is next. Returns `false` if it isn't expected or is too deep.
+    /// Opens an array or object, in which `inside` is expected first. Returns `false` if no value is expected
+    /// or the nesting is too deep.
     ///
     /// # Errors
     ///

@@ -15,9 +15,9 @@ use subst_document::slice;
 ///
 /// `token` is the byte range in `source` of the string with its quotes, as returned by
 /// [`strings`](crate::strings). `range` is in byte offsets of the string. A byte offset maps to the start of
-/// the character's spelling there, and the string's end to the closing quote. The result is `None` if the
-/// token isn't a string or the range ends before it starts. It is also `None` if an end of the range is past
-/// the string's end or inside a character.
+/// the spelling of the character at the offset. The string's end maps to the closing quote. The result is
+/// `None` if the token isn't a string or the range ends before it starts. It is also `None` if an end of the
+/// range is past the string's end or inside a character.
 ///
 /// # Errors
 ///
@@ -118,9 +118,9 @@ pub(crate) fn spelling_len(token: &[u8], offset: usize) -> usize {
 /// The spelling of a character, or of a part of it.
 #[derive(Clone, Copy)]
 struct Spelling {
-    /// The number of bytes of the token.
+    /// The length of the spelling in the token, in bytes.
     len: usize,
-    /// The number of bytes of the string that these bytes of the token spell.
+    /// The length of the spelled part of the string, in bytes.
     spelled: usize,
 }
 

@@ -1,5 +1,5 @@
-//! Spans of many ranges of one string. Each piece of the string's token is read by itself between quotes, and
-//! no span is returned that the reader doesn't confirm.
+//! The spans in a JSON text that spell many ranges of one string. Each piece of the string's token is read by
+//! itself between quotes. Only spans that the reader confirms are returned.
 
 ghost use Rattle.std.specs.Prelude.{◌≡◌, ◌++◌, ◌∷◌, [], IfOk, IfSome, IsTrue};
 ghost use Rattle.subst_json.specs.Places.{IsTokenOf};
@@ -11,7 +11,7 @@ use std::alloc::{AllocError, Global};
 use std::ops::Range;
 use subst_document::{Pieces, Position, StringFormat, slice, spans};
 
-/// A token, the spelling of a string in the source, with that string.
+/// A token of the source, with the string that it spells.
 #[derive(Clone, Copy)]
 struct Token<'t> {
     source: &'t str,
@@ -52,8 +52,8 @@ impl Pieces for Token<'_> {
     }
 }
 
-/// A finder of spans, as [`places_in`], for many strings of one document. It keeps the reader's buffers, so
-/// each call takes time linear in the length of the string's token.
+/// A finder of the spans that [`places_in`] returns, for many strings of one document. It keeps the reader's
+/// buffers, so each call takes time linear in the length of the string's token.
 #[derive(Drop)]
 pub struct RangeFinder {
     format: JsonStrings,

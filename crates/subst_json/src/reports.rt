@@ -13,7 +13,8 @@ use subst_document::Filler;
 use subst_document::report::{ReportFormat, fault, lines, refusals};
 use subst_language::VariableMap;
 
-/// Returns the report of `e`, the error of a call of this crate for `source`, a file's text, and `variables`.
+/// Returns the report of `e`, the error of a call of this crate with `source` and `variables`. `source` is a
+/// file's text.
 ///
 /// If a string is refused, every refused string is reported, in document order. The report of each is a line
 /// `FILE:LINE:COLUMN: PATH: fault`, and the underlined line of the text if `error::underline` of `subst`

@@ -62,7 +62,7 @@ impl StringFormat for JsonStrings {
 
     ghost is_part = { IsPartOf };
 
-    // Every value fits, with escapes.
+    // Every value fits every token, since a JSON string can have escapes.
     ghost is_fit = { λ _ _. Unit {0} };
 
     fn spells(&mut self, alloc: Global, token: &str, text: &str) -> Result<bool, AllocError> {

@@ -12,8 +12,9 @@ use std::alloc::Global;
 
 /// A type that a tree can be converted into: any that `serde` deserializes.
 pub trait FromTree: Sized + Drop {
-    // The possible results for a tree. For the types of `serde` nothing is known about them. A contract that
-    // holds for all such relations still states which tree is converted.
+    // The relation of a tree and the possible results of its conversion. For the types of `serde`, nothing is
+    // known about the results. A contract that holds for every such relation still states which tree is
+    // converted.
     ghost reads: { Data → Result Self Error → Type 0 };
 
     /// Converts a tree, or returns an error if it doesn't fit this type.

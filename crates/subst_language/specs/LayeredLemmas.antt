@@ -6,7 +6,8 @@ use Rattle.subst_language.specs.Language.LookUp.{LookUp}
 use Rattle.subst_language.specs.Maps.{AreReadAs, layered, of_one}
 use Rattle.subst_language.specs.declared.maps.layered.OneOf.TheVariants.{First, Second}
 
--- The bytes of a `OneOf` of two types follow from what it is identified with, if this holds for each type.
+-- The bytes of a `OneOf` follow from what it is identified with, if the same holds for values of each of its
+-- two types.
 pub of_one_reads_as : {A B S T : Type 0} (items : A → List ℕ) (other_items : B → List ℕ) (see : A → S)
     (other_see : B → T) (bytes : S → List ℕ) (other_bytes : T → List ℕ)
     → ReadsAs items see bytes → ReadsAs other_items other_see other_bytes
@@ -15,7 +16,7 @@ pub of_one_reads_as : {A B S T : Type 0} (items : A → List ℕ) (other_items :
 of_one_reads_as items other_items see other_see bytes other_bytes reads other_reads (First a) = reads a
 of_one_reads_as items other_items see other_see bytes other_bytes reads other_reads (Second b) = other_reads b
 
--- The bytes of two maps in layers under a name are those of the first map's value, or else of the second's.
+-- Two maps in layers have, for a name, the bytes of the first map's value, or else of the second's.
 pub layered_reads_as : {S T : Type 0} (bytes : S → List ℕ) (other_bytes : T → List ℕ)
     (first : List ℕ → Option S) (second : List ℕ → Option T) (name : List ℕ) (x y : Option (List ℕ))
     → x ≡ look_up_of bytes first name → y ≡ look_up_of other_bytes second name
@@ -29,7 +30,8 @@ layered_reads_as {S} {T} bytes other_bytes first second name x y p q = rw (p, q)
     of None (Some t) = refl
     of None None = refl
 
--- If each of two maps has a look-up of bytes, the maps in layers have the first look-up, or else the second.
+-- Two maps in layers have a look-up of bytes if each of them has one. For each name it has the first
+-- look-up's value, or else the second's.
 pub layers_are_read_as : {Layers M N A B S T : Type 0} (items : A → List ℕ) (other_items : B → List ℕ)
     (see : A → S) (other_see : B → T)
     (look_up : M → List ℕ → Option S) (other_look_up : N → List ℕ → Option T)

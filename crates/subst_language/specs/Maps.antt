@@ -32,7 +32,7 @@ btree_get_by_borrowed_text map name = btree_get_by (λ key. slice_cmp nat_cmp na
 abbrev pub hash_get_by_borrowed_text : {V S : Type 0} → HashMap (Bor (List ℕ)) V S → List ℕ → Option V
 hash_get_by_borrowed_text map name = hash_get_by (λ key. bytes_eq name key.now) map
 
--- the result of the function for the type of the value, applied to that value
+-- `first` of the value in a `First`, or `second` of the value in a `Second`
 abbrev pub of_one : {A B C : Type 0} → (A → C) → (B → C) → OneOf A B → C
 of_one first second (First a) = first a
 of_one first second (Second b) = second b
@@ -47,8 +47,8 @@ abbrev pub without_empty : LookUp → LookUp
 without_empty look name =
     option_and_then (λ bytes. (if length bytes == 0 then None else Some bytes)) (look name)
 
--- Some function `bytes` reads the bytes of each value v, `items v`, from `see v`, which v is identified with.
--- It also reads the bytes that `look_up_bytes` has for each name from what `look_up` has for that name.
+-- Some function `bytes` maps `see v`, which v is identified with, to `items v`, the bytes of v, for each
+-- value v. For each map and name, it also maps the result of `look_up` to that of `look_up_bytes`.
 abbrev pub AreReadAs : {Map Value Seen : Type 0} → (Value → List ℕ) → (Value → Seen)
     → (Map → List ℕ → Option Seen) → (Map → LookUp) → Type 0
 AreReadAs {Map} {Value} {Seen} items see look_up look_up_bytes = (bytes : Seen → List ℕ)

@@ -34,11 +34,12 @@ pub fn law_1()
     ensures reading { (s : List ℕ) → OneTreeOrOneFault s }
 {}
 
-/// The law of joined sentences. Let a text follow a sentence, and not continue a name at its end. If the text
-/// has a fault, the whole has that fault, its position moved by the sentence's length. If the text is a
-/// sentence, so is the whole, with the two trees joined and the two outputs concatenated. If then a variable
-/// of the first is missing, the whole is refused for it. If only variables of the second are missing, the
-/// whole is refused for the first of these, its position moved likewise.
+/// The law of joined sentences. Let a text follow a sentence, and not continue a name at the sentence's end.
+/// If the text has a fault, the whole has the same fault, with its position moved by the sentence's length.
+/// If the text is a sentence too, so is the whole, with the two trees joined and the two outputs
+/// concatenated. If both are sentences and a variable of the leading one is missing, the whole is refused
+/// like the leading one. If only variables of the following one are missing, the whole is refused like that
+/// one, with the position moved likewise.
 pub fn law_2()
     ensures tree { (t u : Tree) (a b : List ℕ) → Spells t a → Spells u b → IsFollowed t b
         → Spells (join t u) (a ++ b) }
@@ -66,8 +67,9 @@ pub fn law_3()
 {}
 
 /// The law of names. A tree has the same value under two look-ups that agree on all names in the tree.
-/// Suppose instead that the second has at least a value for each of these names that the first has one for.
-/// If the value under the first is bytes, so is the value under the second, perhaps with other bytes.
+/// Suppose instead that each of these names with a value in the first look-up has one in the second, perhaps
+/// another. If the tree's value under the first is bytes, so is its value under the second, perhaps with
+/// other bytes.
 pub fn law_4()
     ensures same { (p : ℕ) (t : Tree) (a b : LookUp) → All (λ n. a n ≡ b n) (names_in t)
         → value p t a ≡ value p t b }
@@ -86,9 +88,9 @@ pub fn law_5()
         → HasFault p s (InvalidEscapeSequence position None) → position + 1 ≡ p + length s }
 {}
 
-/// The law of settled faults. These faults stay, whatever is appended to the text: an escape with its
-/// character, an unexpected character, and a missing name if its `$` or `${` doesn't end the text. For any
-/// other fault, some text can be appended so that the source has another fault, or none.
+/// The law of settled faults. These faults stay, whatever is appended to the text: an escape of a character
+/// that can't be escaped, an unexpected character, and a missing name if its `$` or `${` doesn't end the
+/// text. For any other fault, some text can be appended so that the source has another fault, or none.
 pub fn law_6()
     ensures settled { (p : ℕ) (s more : List ℕ) (f : Fault) → IsUtf8 s → HasFault p s f
         → IsSettled (p + length s) f → HasFault p (s ++ more) f }
@@ -160,8 +162,9 @@ pub fn turns_are_bounded()
 {}
 
 /// The law of lengths. The length of an output is the number of the tree's visited plain and escaped bytes,
-/// plus the lengths of the values of visited variables. It is at most the source's length plus these lengths.
-/// Their sum is at most that for all names in the tree, repeated names included.
+/// plus the lengths of the values of visited variables. An output is at most as long as the source and these
+/// values together. These values together are at most as long as the values for all names in the tree,
+/// repeated names included.
 pub fn outputs_are_bounded()
     ensures exact { (p : ℕ) (t : Tree) (look : LookUp) (x : List ℕ) → value p t look ≡ Bytes x
         → value_length t look ≡ length x }

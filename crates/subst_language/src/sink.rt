@@ -63,7 +63,8 @@ pub trait Sink {
         ensures kept { OnErr result (Keeps holds self.old self.new) }
         ensures cause { OnErr result asks };
 
-    /// Closes the innermost open default, which has this index and name. All later parts belong to it.
+    /// Closes the innermost open default, which has this index and name. All parts that the sink holds after
+    /// it are its own.
     fn close(&mut self, index: usize, name: Span)
         requires { CanClose holds limit self.old index name }
         ensures { ClosesDefault holds self.old index name self.new };

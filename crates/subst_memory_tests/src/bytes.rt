@@ -61,7 +61,8 @@ pub fn owned(alloc: Global, source: &[u8]) -> Result<ByteTemplateBuf, ParseError
     ByteTemplateBuf::from_vec(Vec::from_slice(alloc, source)?)
 }
 
-/// Returns a template that owns `bytes`, or if an earlier call has taken `bytes`, a copy of `source`.
+/// Returns a template that owns `bytes`. If an earlier call has taken `bytes`, the template owns a copy of
+/// `source` instead.
 fn taken(
     alloc: Global,
     bytes: &mut Option<Vec<u8>>,
@@ -104,7 +105,8 @@ fn fill_in(rt: &HostRuntime, name: &str, source: &[u8]) -> Result<(), AllocError
     Ok(())
 }
 
-/// Expands `bytes`, passed by value, or if an earlier call has taken `bytes`, a copy of `source`.
+/// Expands `bytes`, passed by value. If an earlier call has taken `bytes`, a copy of `source` is expanded
+/// instead.
 fn expand_owned(
     alloc: Global,
     bytes: &mut Option<Vec<u8>>,

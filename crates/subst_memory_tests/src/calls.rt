@@ -24,7 +24,7 @@ macro_rules! again {
     };
 }
 
-/// Makes a call between marks, under the name `$name` in `stdout`, and returns the result.
+/// Makes a call between marks, the first of which names it `$name`, and returns the result.
 macro_rules! once {
     ($rt:expr, $name:expr => $call:expr) => {{
         $crate::marks::begin($rt, $name);
@@ -85,7 +85,7 @@ impl Show for () {
     }
 }
 
-/// Prints a text line by line.
+/// Prints each line of a text.
 impl Show for &str {
     fn show(&self, rt: &HostRuntime, word: &str) {
         for line in self.lines() {
@@ -106,7 +106,7 @@ impl Show for Vec<u8> {
     }
 }
 
-/// Prints a list value by value.
+/// Prints each value of a list, or `NONE` if the list is empty.
 impl<T: Show> Show for Vec<T> {
     fn show(&self, rt: &HostRuntime, word: &str) {
         if self.is_empty() {

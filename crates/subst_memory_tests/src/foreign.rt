@@ -38,7 +38,7 @@ impl Show for TextVariable<'_> {
     }
 }
 
-/// Prints a placeholder: a set of names has no text.
+/// Prints `names`, since a set of names has no text.
 impl Show for OnlyNames<'_> {
     fn show(&self, rt: &HostRuntime, word: &str) {
         print(rt, word, "names");

@@ -25,7 +25,7 @@ where
     print_end(rt);
 }
 
-/// Looks up in a map of this kind, in which `name` is `world`.
+/// Looks up `name` and `absent` in a new `$map`, in which `name` has the value `world`.
 macro_rules! get_of {
     ($rt:ident, $call:expr, $map:ident, $key:expr) => {
         let mut map = $map::new($rt.alloc());
@@ -111,7 +111,8 @@ fn templates(rt: &HostRuntime) -> Result<(), Error> {
     Ok(())
 }
 
-/// Makes the calls over a source without dollars and backslashes, passed by value as a text and as bytes.
+/// Makes the calls over a source without dollars and backslashes: `is_plain`, and the two that take the
+/// source by value, as a text and as bytes.
 fn plain_sources(rt: &HostRuntime) -> Result<(), Error> {
     let alloc = rt.alloc();
     let text = String::from_str(alloc, "{a: b}")?;

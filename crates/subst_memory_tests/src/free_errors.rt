@@ -118,7 +118,8 @@ fn clone(rt: &HostRuntime) -> Result<(), AllocError> {
     Ok(())
 }
 
-/// Converts a reader's error, a refusal and a failed allocation, and prints whether the cases are right.
+/// Converts a reader's error, a refusal and a failed allocation into `$format::Error`, and prints whether
+/// each has the right case.
 macro_rules! convert_into {
     ($rt:ident, $format:ident, $case:ident, $name:literal => $reading:ident) => {
         let (reading, refusal, memory) = once!($rt, $name => ($format::Error::from($reading),

@@ -25,7 +25,7 @@ const YAML: &str =
 
 const MISSING_IN_YAML: &str = "k: ['$name', [\"\\u00E9$absent\"], '$']\n";
 
-/// A YAML text that is refused, after a value that would change.
+/// A text that isn't valid YAML: the error follows a value that would change.
 const NO_YAML: &str = "k: $name\nl: b: c\n";
 
 impl Show for StringAt {
@@ -65,7 +65,8 @@ impl Show for yaml::Error {
     }
 }
 
-/// Returns the byte ranges of the name, and of the empty end, in a document's first refused string.
+/// Returns two byte ranges in a document's first refused string: that of the name, and the empty one at the
+/// string's end.
 fn ranges() -> [Range<usize>; 2] {
     [3..9, 9..9]
 }

@@ -1,5 +1,5 @@
-//! Calls over sources of 10 KiB: with enough capacity, they allocate no more than over short sources. Calls
-//! that fill in documents of 10 KiB. Only the length of each output is printed.
+//! Calls over sources and documents of 10 KiB. With enough capacity, the calls over sources allocate no more
+//! than those over short sources. Only the length of each output is printed.
 
 use crate::calls::{Show, again, print_end};
 use crate::{bytes, texts};

@@ -1,4 +1,4 @@
-//! Printed marks around calls. They show the script that makes allocations fail which call allocates.
+//! Printed marks around calls. The script that makes allocations fail learns from them which call allocates.
 
 use std::io::Print;
 

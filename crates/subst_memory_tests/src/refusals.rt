@@ -1,4 +1,5 @@
-//! Calls about a document's refused strings: `place_in` for a name in one, and `Display` of its path.
+//! Calls about a document's refused strings: `place_in` for a name in such a string, and `Display` of the
+//! string's path.
 
 use crate::calls::{Show, again, print};
 use crate::documents::VARIABLES;

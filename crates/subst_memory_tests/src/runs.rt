@@ -138,7 +138,8 @@ pub fn status_of_run(
 }
 
 /// Runs the program with the environment `pairs`, or `name=world` if an earlier call has taken `pairs`, and
-/// returns the exit status. A lone message that memory ran out is discarded, and returned as the error.
+/// returns the exit status. If the program's only message is that memory ran out, the message is discarded,
+/// and the result is an error.
 fn ended(
     alloc: Global,
     line: &[String],

@@ -56,7 +56,8 @@ pub fn owned(alloc: Global, source: &str) -> Result<TemplateBuf, ParseError> {
     TemplateBuf::from_string(String::from_str(alloc, source)?)
 }
 
-/// Returns a template that owns `text`, or if an earlier call has taken `text`, a copy of `source`.
+/// Returns a template that owns `text`. If an earlier call has taken `text`, the template owns a copy of
+/// `source` instead.
 fn taken(
     alloc: Global,
     text: &mut Option<String>,
@@ -84,7 +85,8 @@ fn fill_in(rt: &HostRuntime, name: &str, source: &str) -> Result<(), AllocError>
     Ok(())
 }
 
-/// Expands `text`, passed by value, or if an earlier call has taken `text`, a copy of `source`.
+/// Expands `text`, passed by value. If an earlier call has taken `text`, a copy of `source` is expanded
+/// instead.
 fn expand_owned(
     alloc: Global,
     text: &mut Option<String>,

@@ -12,8 +12,8 @@ use Rattle.subst_parse.specs.declared.tape.Tape.{Tape}
 abbrev pub GrowsBetween : (low high old new : ℕ) → Type 0
 GrowsBetween low high old new = (old + low ≤ new) × (new ≤ old + high)
 
--- The run of bytes with the property P that begins at `from` ends at `to`. The bytes of the run were read,
--- and the byte after the run, if there is one. The tape was `before` and is `after`.
+-- Each byte in from..to has the property P, and the byte at `to` doesn't, or the source ends there. The bytes
+-- in from..to were read, and so was the byte at `to`, if there is one. The tape was `before` and is `after`.
 pub record FindsEnd (P : ℕ → Type 0) (before : Tape) (from to : ℕ) (after : Tape) : Type 0 where
   pub run : IsRun P before.source.now from to
   pub end : BeginsWithNo P (drop to before.source.now)
@@ -28,8 +28,8 @@ end_of_name (Braced name) = name.end
 end_of_name (Optional name) = name.end + 1
 end_of_name (Default name) = name.end
 
--- A step of the parser that advances n bytes makes at least n and at most 3 * n reads. A step with n bytes
--- left that ends in an error makes at least one and at most 2 * n + 8 reads.
+-- A step of the parser that advances n bytes makes at least n and at most 3 * n reads. If a step begins with
+-- n bytes left and ends in an error, it makes from one to 2 * n + 8 reads.
 abbrev pub StepReads : {S : Type 0} → Parser S → Result (Unit {0}) Halt → Parser S → Type 0
 StepReads before (Ok _) after =
     GrowsBetween (after.at - before.at) (3 * (after.at - before.at)) before.tape.reads after.tape.reads
@@ -37,8 +37,8 @@ StepReads before (Err e) after =
     GrowsBetween 1 (2 * (length before.tape.source.now - before.at) + 8) before.tape.reads after.tape.reads
 
 -- The reads of a step of the parser whose first byte has been read already. A step that advances n bytes
--- makes at least n - 1 and at most 2 * n - 1 reads. A step with n bytes left that ends in an error makes at
--- most 2 * n + 6 reads.
+-- makes at least n - 1 and at most 2 * n - 1 reads. If a step begins with n bytes left and ends in an error,
+-- it makes at most 2 * n + 6 reads.
 abbrev pub StepReadsAfterFirst : {S : Type 0} → Parser S → Result (Unit {0}) Halt → Parser S → Type 0
 StepReadsAfterFirst before (Ok _) after =
     GrowsBetween (after.at - before.at - 1) (2 * (after.at - before.at) - 1)

@@ -1,4 +1,4 @@
--- The fault that the parser's own small error states, or `None` if memory ran out.
+-- The fault that a `Halt` states, or `None` if memory ran out. A `Halt` is the parser's own small error.
 use Rattle.std.specs.Prelude.{Option, Some, None}
 use Rattle.subst_error.specs.Fault.{Fault, InvalidEscapeSequence, MissingVariableName, UnexpectedCharacter, MissingClosingBrace}
 use Rattle.subst_language.specs.Language.BadItem.{after_name, after_question_mark}

@@ -1,4 +1,4 @@
--- Bytes that are plain inside a default, and no braces.
+-- Bytes that are plain inside a default and aren't braces.
 use Rattle.std.specs.Prelude.{ℕ, ◌==◌, Bool, not, ◌||◌, IsTrue}
 use Rattle.subst_language.specs.Language.Bytes.{dollar, backslash, opening_brace, closing_brace}
 

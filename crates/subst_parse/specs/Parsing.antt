@@ -1,4 +1,4 @@
--- The part of a source that the parser has read, and the meaning of its parts and open defaults.
+-- The text that the parser has read so far, and the meaning of its parts and open defaults.
 use Rattle.std.specs.Prelude.{◌≡◌, ℕ, suc, ◌+◌, ◌^◌, ◌<◌, ◌≤◌, List, [], ◌∷◌, ◌++◌, length, drop, reverse, Bool, true, false, IsTrue, Result, Ok, Err, IfNone, IfSome, Contains}
 use Rattle.subst_language.specs.Language.Bytes.{colon, IsPlain}
 use Rattle.subst_language.specs.Language.Tree.{Tree, text}
@@ -27,7 +27,7 @@ pub record IsTreeAt (s : List ℕ) (from to : ℕ) (t : Tree) : Type 0 where
   pub spelled : drop from s ≡ text t ++ drop to s
   pub ends : to ≡ from + length (text t)
 
--- s has the text of a well-formed tree in start..at, which the parts mean; the first part has index i
+-- s has the text of a well-formed tree in start..at, and the parts mean this tree; the first part has index i
 pub record IsParsed (s : List ℕ) (start at i : ℕ) (parts : List Part) : Type 0 where
   pub tree : Tree
   pub read : IsTreeAt s start at tree
@@ -42,8 +42,9 @@ pub record IsParsedWithTail (pending : Bool) (s : List ℕ) (start literal_start
   pub run : IsRun IsPlain s literal_start at
   pub begins : IsTrue pending → ends_plain false level.tree ≡ false
 
--- The default is open: its part's `next` isn't set yet. Before its part are those of the text around it, of
--- which `Around` holds. After its part are those of its own text so far, in which bare braces may be open.
+-- The default is open: its part's `next` isn't set yet. The parts before that part belong to the text around
+-- the default, and `Around` holds of them. The parts after it belong to the default's text so far, in which
+-- bare braces may be open.
 pub record IsOpenDefault (pending : Bool) (s : List ℕ) (default : OpenDefault) (depth : ℕ) (parts : List Part)
     (literal_start at : ℕ) (Around : List Part → ℕ → Type 0) : Type 0 where
   pub before : List Part
@@ -61,7 +62,8 @@ pub record IsOpenDefault (pending : Bool) (s : List ℕ) (default : OpenDefault)
   pub around : Around before position
 
 -- The source s is read up to `at`, and its plain bytes from `literal_start` on have no part yet. The listed
--- defaults are open, the innermost first, and `depth` braces in all. `pending` is as in `IsParsedWithTail`.
+-- defaults are open, the innermost first. In all, `depth` braces are open. `pending` is as in
+-- `IsParsedWithTail`.
 abbrev pub StackHolds : Bool → List ℕ → List OpenDefault → ℕ → List Part → ℕ → ℕ → Type 0
 StackHolds pending s [] depth parts literal_start at =
     (depth ≡ 0) × IsParsedWithTail pending s 0 literal_start at 0 parts

@@ -47,8 +47,8 @@ IsPlaceholder s at (Braced name) = IsInBraces s at name closing_brace
 IsPlaceholder s at (Optional name) = IsOptional s at name
 IsPlaceholder s at (Default name) = IsInBraces s at name colon
 
--- The text r at position p begins with a bad item whose fault is f. So does each prefix of r before a closing
--- brace: the end of a default around the item doesn't matter.
+-- The text r at position p begins with a bad item whose fault is f. So does each prefix of r that a closing
+-- brace follows: it doesn't matter where a default around the item ends.
 pub record IsBadWhenCut (p : ℕ) (r : List ℕ) (f : Fault) : Type 0 where
   pub bad : IsBad p r f
   pub cut : (x q : List ℕ) → r ≡ x ++ closing_brace ∷ q → IsBad p x f

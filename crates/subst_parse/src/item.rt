@@ -122,7 +122,7 @@ fn braced_at(tape: &mut Tape<'_>, at: usize) -> Result<Placeholder, Halt>
     }
 }
 
-/// Returns the placeholder `${name?}` at `at`, or its fault. It has been read up to its question mark.
+/// Returns the placeholder `${name?}` at `at`, or its fault. The source must have `${name?` at `at`.
 fn optional_at(tape: &mut Tape<'_>, at: usize, name: Span) -> Result<Placeholder, Halt>
     requires { IsInBraces tape.old.source.now at name question_mark }
     ensures ok { IfOk result (IsPlaceholder tape.old.source.now at) }

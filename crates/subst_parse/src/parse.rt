@@ -1,5 +1,6 @@
-//! The parser: it reads a source once, from the left, and appends its parts to a sink. Then the sink holds
-//! the parts of the source's template, or the parser returns the source's fault, or out of memory.
+//! The parser: it reads a source once, from the left, and appends its parts to a sink. If it succeeds, the
+//! sink holds the parts of the source's template. Otherwise it returns an error: the source's fault or out of
+//! memory.
 
 ghost use Rattle.std.specs.Prelude.{◌≡◌, ◌+◌, ◌-◌, ◌*◌, ◌<◌, ◌≤◌, ℕ, List, [], ◌∷◌, length, drop, slice_get, vec_len, IfErr, OnErr, OnOk, IsSomeAnd, IsTrue, ◌↔◌, Contains};
 ghost use Rattle.subst_error.specs.ErrorFault.{parse_fault};
@@ -48,8 +49,9 @@ pub(crate) struct Parser<'s, S: Sink> {
     at: usize,
 }
 
-/// Appends the parts of a source to a sink. Returns the sink, the reads, and `Ok`, or an error for the
-/// source's fault or out of memory. The first `plain` bytes must have no `$` and no `\`, and aren't read.
+/// Appends the parts of a source to a sink. Returns the sink, the reads, and the outcome: `Ok`, or an error
+/// for the source's fault or out of memory. The first `plain` bytes must have no `$` and no `\`, and aren't
+/// read.
 #[inline(always)]
 pub fn parse_into<S: Sink>(
     alloc: Global,
@@ -208,7 +210,8 @@ impl<'s, S: Sink> Parser<'s, S> {
         }
     }
 
-    /// Reads the placeholder at `at`, up to the colon of a default, and appends its part, or returns a fault.
+    /// Reads the placeholder at `at` and appends its part, or returns the source's fault. A placeholder
+    /// `${name:default}` is read up to its colon.
     #[inline(always)]
     fn read_placeholder(&mut self) -> Result<(), Halt>
         requires reading { IsReadingSince S.holds S.source S.limit self.old }
@@ -348,8 +351,9 @@ impl<'s, S: Sink> Parser<'s, S> {
         Ok(())
     }
 
-    /// Returns the fault of a source that has a bad item, with the fault `halt`, at `at`. If a default around
-    /// the item is never closed, the result is the missing brace of the outermost default.
+    /// Returns the fault of a source that has a bad item at `at`. If a default around the item is never
+    /// closed, the result is the missing brace of the outermost default. Otherwise it is `halt`, the item's
+    /// own fault.
     #[cold]
     #[inline(never)]
     fn fault_of_source(&mut self, halt: Halt) -> Halt

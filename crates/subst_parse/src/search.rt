@@ -149,7 +149,8 @@ fn first_outside_bytewise<C: ByteClass>(source: &[u8], from: usize, to: usize) -
     at
 }
 
-/// Returns a mask of the 32 bytes from `at` on that aren't in the class. The first byte has the lowest bit.
+/// Returns a mask of the bytes that aren't in the class, among the 32 bytes from `at` on. The lowest bit is
+/// that of the byte at `at`.
 #[inline(always)]
 fn outside_at<C: VectorClass>(source: &[u8], at: usize) -> u64
     requires { at + 32 ≤ length source.now }
@@ -158,7 +159,8 @@ fn outside_at<C: VectorClass>(source: &[u8], at: usize) -> u64
     top_bits(C::outside(load(source, at)))
 }
 
-/// Returns a mask of the bytes in `from..to` that aren't in the class. The first byte has the lowest bit.
+/// Returns a mask of the bytes in `from..to` that aren't in the class. The lowest bit is that of the byte at
+/// `from`.
 #[inline(always)]
 fn outside_before<C: VectorClass>(source: &[u8], from: usize, to: usize) -> u64
     requires ordered { from ≤ to }

@@ -1,5 +1,5 @@
 //! The source as the parser sees it: the byte at an offset, three searches, and the character at an offset.
-//! Contracts state the result, as an equation on the rest of the source, and the number of reads.
+//! The contract of each states its result, in terms of the rest of the source, and its number of reads.
 
 ghost use Rattle.std.specs.Prelude.{◌≡◌, ◌+◌, ◌-◌, ◌<◌, ◌≤◌, [], ◌∷◌, length, drop, min, IsSome, IsTrue, ◌↔◌, MatchOption};
 ghost use Rattle.subst_language.specs.Language.Bytes.{IsPlain};
@@ -88,7 +88,7 @@ impl<'s> Tape<'s> {
     }
 
     /// Returns the offset of the first byte from `from` on that isn't in the class, or the end of the source.
-    /// After an escape or a placeholder that byte is often one of the first two, which are tested first.
+    /// After an escape or a placeholder, that byte is often one of the first two, so those are tested first.
     #[inline(always)]
     fn find_outside<C: SearchedClass>(&mut self, from: usize) -> usize
         requires { from < length self.old.source.now }

@@ -49,8 +49,8 @@ where
     ensures kept { OnErr result (output.new.items ≡ output.old.items) }
     ensures capacity { vec_capacity output.old ≤ vec_capacity output.new }
 
-    // Out of memory in the parse only if the source has a colon. After it, only if the capacity is less than
-    // the bytes written.
+    // The parse runs out of memory only if the source has a colon. After the parse, memory runs out only if
+    // the spare capacity is less than the bytes written.
     ensures cause { NeedsMemory source.now result }
     ensures full { ByWritten M.Value.items M.see (M.look_up variables.now) source.now
         (OverflowsParsed (vec_capacity output.old) (vec_len output.old) result) }
@@ -96,8 +96,8 @@ where
     ensures kept { OnErr result (string_bytes output.new ≡ string_bytes output.old) }
     ensures capacity { string_capacity output.old ≤ string_capacity output.new }
 
-    // Out of memory in the parse only if the source has a colon. After it, only if the capacity is less than
-    // the bytes written.
+    // The parse runs out of memory only if the source has a colon. After the parse, memory runs out only if
+    // the spare capacity is less than the bytes written.
     ensures cause { NeedsMemory source.now result }
     ensures full { ByWritten M.Value.text M.see (M.look_up variables.now) source.now
         (OverflowsParsed (string_capacity output.old) (string_len output.old) result) }

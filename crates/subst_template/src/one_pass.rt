@@ -27,7 +27,7 @@ use subst_parse::{Reads, parse_into};
 
 /// Appends the output of a source to `output`, with the values of `variables` as `R` reads them. The first
 /// `plain` bytes of the source must have no `$` and no `\`, and only the bytes after them are parsed.
-/// Variables are looked up as they are read, even before a fault.
+/// Variables are looked up while the source is read, even if a fault follows.
 ///
 /// # Errors
 ///
@@ -49,8 +49,8 @@ where
     ensures kept { OnErr result (output.new.items ≡ output.old.items) }
     ensures capacity { vec_capacity output.old ≤ vec_capacity output.new }
 
-    // Out of memory only if the capacity is less than the bytes written, or in the parse if the source has a
-    // colon.
+    // The parse runs out of memory only if the source has a colon. After the parse, memory runs out only if
+    // the spare capacity is less than the bytes written.
     ensures full { ByLookUp R.read M.see (M.look_up variables.now)
         (λ look. ByTree source.now (λ t. IfRefused result (λ e. Unit {0})
         (λ e. IfNone (expand_into_fault e)
@@ -64,7 +64,8 @@ where
     ensures range { IfErr result
         (λ e. (range_of (substitute_into_fault e)).end ≤ length source.now) }
 
-    // The output, even if no contract knows the values: values that R read, between bytes from the source.
+    // The output consists of bytes from the source and values that `R` read, even if contracts don't know the
+    // values.
     ensures filled { OnOk result (AppendsTemplate R.is_read (M.look_up variables.now) source.now
         output.old.items output.new.items) }
 {

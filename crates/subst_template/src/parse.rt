@@ -62,13 +62,14 @@ fn parse_packed<O: Offset>(
     }
 }
 
-/// Creates an empty list of parts. If `some`, parts will follow, and `FIRST_PARTS` are reserved if possible.
+/// Creates an empty list of parts. `some` means that parts will follow. The function then tries to reserve
+/// capacity for `FIRST_PARTS` of them.
 fn empty_list<O: Offset>(alloc: Global, some: bool) -> PackedVec<O>
     ensures { result ≡ [] }
 {
     let mut parts = PackedVec::new(alloc);
     if some {
-        // If there is no memory for it, a push reports it.
+        // A failure is ignored: if memory is still missing later, a push reports it.
         let _ = parts.reserve(FIRST_PARTS);
     }
     parts

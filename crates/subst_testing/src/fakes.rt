@@ -4,7 +4,7 @@ use std::alloc::{AllocError, Global};
 use std::io;
 use std::io::{ErrorKind, Read, Write};
 
-/// The failure of a device: an error of this kind, from the call with this number on, counted from 0.
+/// The failure of a device: every call from number `call` on, counted from 0, fails with an error of `kind`.
 #[derive(Clone, Copy)]
 pub struct Fault {
     pub call: usize,

@@ -1,5 +1,6 @@
-//! A run of each caller of `subst_uses` with enough memory. A contract states the output, but also admits a
-//! body that always fails. The callers for each kind of map are in `maps`, and the loaders in `loaders`.
+//! A run, with enough memory, of each caller in `subst_uses`. A contract states the output, but a body that
+//! always fails also satisfies it. The callers for each kind of map are run in `maps`, and the loaders in
+//! `loaders`.
 
 use crate::expect::{expect, expect_bytes};
 use std::alloc::{AllocError, Global};

@@ -14,7 +14,7 @@ const DEPTH: usize = 100_000;
 
 const UNCLOSED: &str = "1..2: MissingClosingBrace";
 
-/// Returns the text of each part, repeated as often as the part states, concatenated.
+/// Concatenates the texts of the parts, each repeated as often as its part states.
 fn repeated(alloc: Global, parts: &[Part<'_>]) -> Result<String, AllocError> {
     let mut all = String::new(alloc);
     for &(count, text) in parts {

@@ -148,7 +148,8 @@ fn texts_and_equality_of_faults(rt: HostRuntime) -> Result<(), Fail> {
     Ok(())
 }
 
-/// Expects `want` as the `{:?}` of a fault, and `CASE(want)` as that of the errors made from the fault.
+/// Expects that the `{:?}` of a fault is `want`. For the errors made from the fault, expects `NAME(want)`,
+/// where `NAME` is the first word of `want`.
 fn expect_fault<F: Copy + Debug>(rt: &impl Testing, fault: F, want: &str) -> Result<(), AllocError>
 where
     ParseError: From<F>,
@@ -238,7 +239,8 @@ fn is_clone_equal<T: Clone + PartialEq + Drop>(one: T, other: T) -> Result<bool,
     Ok(clone? == other)
 }
 
-/// Returns whether the missing variable `"name"` at 8, cloned, equals the missing variable of the arguments.
+/// Returns whether a clone of the missing variable `"name"` at position 8 equals the missing variable `name`
+/// at `position`.
 fn is_equal(alloc: Global, position: usize, name: &str) -> Result<bool, AllocError> {
     is_clone_equal(absent(alloc, 8, "name")?, absent(alloc, position, name)?)
 }

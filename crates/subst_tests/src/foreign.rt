@@ -134,7 +134,7 @@ const OF_KNOWN: [(Forms, Row<'static>); 3] = [
     ),
 ];
 
-/// Texts of common forms that begin with a refused form.
+/// Texts that begin with a form that `Forms::Common` refuses, each with that form.
 const REFUSED: [(&str, ShellForm); 18] = [
     ("$1", ShellForm::Dollar),
     ("$(b)", ShellForm::Dollar),
@@ -208,7 +208,7 @@ fn filled_bytes(alloc: Global, forms: Forms, template: &[u8]) -> Result<Vec<u8>,
     }
 }
 
-/// Expects the template and the output of `row` for its text and the text's bytes, without refused forms.
+/// Expects the template and the output of `row` for its text and for the text's bytes, and no refused forms.
 fn expect_row<N: Names>(rt: &impl Testing, style: Style<'_, N>, row: Row<'_>) {
     let (text, template, given) = row;
     let (bytes, alloc) = (text.as_bytes(), rt.alloc());

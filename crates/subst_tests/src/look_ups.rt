@@ -1,5 +1,5 @@
-//! Lookups, by a map that records them: each visited variable is looked up once, in order. Calls without a
-//! template also look up the names before a fault.
+//! Lookups, recorded by a map: each visited variable is looked up once, in order. Calls without a template
+//! also look up the names before a fault.
 //!
 //! No contract states how often `get` is called, or with which names.
 
@@ -82,7 +82,8 @@ fn names_by_output(alloc: Global, source: &str) -> u64 {
     variables.names.get()
 }
 
-/// Returns the names that a template looks up, as digits: while it is parsed, and until it is expanded.
+/// Returns the names that a template has looked up, as digits: after it is parsed, and after it is also
+/// expanded.
 fn names_by_template(alloc: Global, source: &str) -> (u64, u64) {
     let variables = RecordingMap::new();
     match Template::from_str(alloc, source) {
@@ -95,7 +96,8 @@ fn names_by_template(alloc: Global, source: &str) -> (u64, u64) {
     }
 }
 
-/// Returns the names that a byte template looks up, as digits: while it is parsed, and until it is expanded.
+/// Returns the names that a byte template has looked up, as digits: after it is parsed, and after it is also
+/// expanded.
 fn names_by_byte_template(alloc: Global, source: &str) -> (u64, u64) {
     let variables = RecordingMap::new();
     match ByteTemplate::from_slice(alloc, source.as_bytes()) {

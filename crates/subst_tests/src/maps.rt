@@ -50,8 +50,8 @@ fn key(alloc: Global) -> Result<String, AllocError> {
     String::from_str(alloc, "name")
 }
 
-/// Expects `Hello world!` for each of `SOURCES` with a map in which `name` is `world`. For the first source,
-/// the callers of the map in `subst_uses` are tested too.
+/// Expects `Hello world!` for each of `SOURCES` with a map in which `name` is `world`. With the first source,
+/// the callers in `subst_uses` for this kind of map are tested too.
 macro_rules! expect_map {
     ($rt:ident, $map:ident, $key:expr, $caller:ident) => {
         let mut variables = $map::new($rt.alloc());

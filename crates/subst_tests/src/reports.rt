@@ -35,7 +35,7 @@ fn expect_position(
     Ok(())
 }
 
-/// Expects, as `expect_position` does, that the fault of a source without variables is at `want`.
+/// Expects, as `expect_position` does, that a source expanded without variables has its fault at `want`.
 fn expect_refused(rt: &impl Testing, source: &str, want: &str) -> Result<(), AllocError> {
     match substitute(rt.alloc(), source, &NoSubstitution) {
         Ok(_) => panic!(rt; "no fault: {source:?}"),
@@ -64,7 +64,7 @@ fn lines_and_columns(rt: HostRuntime) -> Result<(), Fail> {
         ("Hello ${name:fallback", "1:8"),
         ("Hello ${name}!", "1:9"),
         ("Hello $name!", "1:8"),
-        // A line ends at a line feed, a carriage return, or both.
+        // A line ends at a line feed, a carriage return, or a carriage return followed by a line feed.
         ("one\nHi $!", "2:4"),
         ("$\n", "1:1"),
         ("a\r\n$", "2:1"),
@@ -77,7 +77,8 @@ fn lines_and_columns(rt: HostRuntime) -> Result<(), Fail> {
         ("x\\\ny", "1:2"),
         ("\\\r\n", "1:1"),
         ("${a\n", "1:4"),
-        // A wide character has two columns, a combining one or a joiner none, and a control character one.
+        // A wide character has two columns, and a control character one. A combining character or a joiner
+        // has none.
         ("Hello $", "1:7"),
         ("Hello \u{3000}$", "1:9"),
         ("日本語$", "1:7"),

@@ -1,5 +1,6 @@
 //! Templates with two maps, owned templates that are taken apart, expansion into slices, `{:?}` of templates,
-//! and escaped texts. Other outputs, also of borrowed templates and copies, are tested by each row.
+//! and escaped texts. Other outputs, also those of borrowed templates and copies, are tested by each row of
+//! `subst_vectors`.
 
 use crate::expect::expect;
 use std::alloc::{AllocError, Global};
@@ -65,7 +66,8 @@ fn expanded_of_bytes(alloc: Global, template: &ByteTemplateBuf) -> TextResult {
     Ok(format!(in alloc; "{} of {}", text(&given), text(template.source()))?)
 }
 
-/// Returns the output of an owned template, its source, and the source that it hands over, in upper case.
+/// Returns the output of an owned template, its source, and, in upper case, the source that `into_source`
+/// returns.
 fn taken_apart(alloc: Global, template: TemplateBuf) -> TextResult {
     let output = expanded(alloc, &template)?;
     let mut source = template.into_source();

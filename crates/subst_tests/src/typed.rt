@@ -51,7 +51,7 @@ fn of_toml<T: Debug + Drop>(
     }
 }
 
-/// Returns `of_text`, the result of a text, if `of_bytes`, that of its bytes, is equal, or else both.
+/// Returns the result of a text, and also that of the text's bytes if the two differ.
 fn both(alloc: Global, of_text: String, of_bytes: String) -> Result<String, AllocError> {
     if of_text == of_bytes {
         Ok(of_text)
@@ -266,7 +266,8 @@ fn toml_under_a_long_header(alloc: Global, key: &str) -> Result<String, AllocErr
 
 #[test]
 fn a_type_is_read_from_80_levels_of_toml(rt: HostRuntime) {
-    // One more part is read as a tree, but the tree is printed with a header of 81 parts.
+    // With one more part, the source can still be read as a tree. But the printed tree has a header of 81
+    // parts, which the reader refuses.
     let rows: &[(&str, &str)] = &[("k", "a tree"), ("k.k", "no TOML")];
     for &(key, want) in rows {
         expect(&rt, key, toml_under_a_long_header(rt.alloc(), key), want);

@@ -41,7 +41,7 @@ pub record Spelled : Type 0 where
   pub text : List ℕ
   pub span : Range ℕ
 
--- the `Spelled` for a string of the code
+-- the `Spelled` for a `StringAt` of the code
 abbrev pub spelled_of : StringAt → Spelled
 spelled_of it = record { text = string_bytes it.text; span = it.span }
 
@@ -60,7 +60,7 @@ opened bracket p = record { len = p.len; brackets = p.brackets ++ bracket ∷ []
 abbrev pub closed : Scanner → Scanner
 closed p = record { len = p.len; brackets = take (length p.brackets - 1) p.brackets; found = p.found }
 
--- the state with one more string x, which is spelled where `text` begins, up to where `rest` begins
+-- the state with one more string x, spelled from where `text` begins to where `rest` begins
 abbrev pub with_string : Scanner → List ℕ → List ℕ → List ℕ → Scanner
 with_string p x text rest = record {
   len = p.len;
@@ -83,15 +83,16 @@ value p text =
 abbrev pub pair : Scanner → List ℕ → Read Scanner
 pair p text = option_and_then (λ k. value p k.1) (key_equals text)
 
--- the text after a header, whose first bracket is before `text`
+-- the text after a header; `text` begins after the header's first bracket
 abbrev pub header : List ℕ → Option (List ℕ)
 header text =
     if first text == left_bracket
     then option_and_then (λ k. after_byte right_bracket k.1) (header_key (drop 1 text))
     else option_map (λ k. k.1) (header_key text)
 
--- The state and the text after the next part inside this innermost open bracket. The part is an item of an
--- array, a member of an inline table, or, with no bracket open, a header or a pair.
+-- The state and the text after the next part inside this innermost open bracket. With no bracket open, the
+-- part is a header or a pair. Inside a bracket, it is a comma, the closing bracket, an array's item or an
+-- inline table's member.
 abbrev pub step_in : Option Bracket → Scanner → List ℕ → Read Scanner
 step_in None p text =
     if first text == left_bracket then option_map (λ rest. (p, rest)) (header (drop 1 text)) else pair p text
@@ -120,7 +121,7 @@ abbrev pub strings_in : List ℕ → Option (List Spelled)
 strings_in text =
     strings_from (suc (length text)) (record { len = length text; brackets = []; found = [] }) (skip_bom text)
 
--- the `Scanner` of the definitions for a state of the code
+-- a `Scanner` of the code as a `Scanner` of these definitions
 abbrev pub scanner_of : code.Scanner → Scanner
 scanner_of p = record {
   len = p.source_len;
@@ -134,7 +135,8 @@ IsFilledIn Becomes source output =
     (found : List Spelled) × (strings_in source ≡ Some found)
     × IsFilledText IsQuotedToken IsPartOf IsFit Becomes (map (λ it. it.text) found) source output
 
--- the output is the source, filled in, or the source itself if each string of its tree is its own value
+-- the output is the source, filled in, or the source itself if `Becomes` relates each string of the source's
+-- tree to itself
 abbrev pub IsFilledOrSame : (List ℕ → List ℕ → Type 0) → List ℕ → List ℕ → Type 0
 IsFilledOrSame Becomes source output = IsFilledIn Becomes source output
     ⊎ ((output ≡ source) × ReadsAsTree source (λ d. IsEach Becomes d d))

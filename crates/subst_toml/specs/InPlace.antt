@@ -17,7 +17,7 @@ use Rattle.subst_toml.specs.declared.error.Error.{Error}
 pub record IsFilledDocument (Becomes : List ℕ → List ℕ → Type 0) (source output : List ℕ) : Type 0 where
   -- the output is read as the source's tree with its strings filled in
   pub mapped : ReadsAsTree source (λ d. ReadsAsTree output (IsEach Becomes d))
-  -- all but the strings that change is kept
+  -- everything is kept except the strings that change
   pub kept : IsFilledOrSame Becomes source output
 
 -- The result of filling in a document. `ask` relates a string to its answers.
@@ -33,7 +33,7 @@ pub record FillsIn (ask : List ℕ → Answer → Type 0) (source : List ℕ)
   pub span : IfToml result (IsWithin source)
   pub subst : OnSubst result (λ f. ReadsAsTree source (λ d. RefusesFirst ask (strings d) f))
   pub range : OnSubst result HasRange
-  -- a failure to allocate is `OutOfMemory`, and no other case
+  -- a failure to allocate is `OutOfMemory`, never `Toml` or `Subst`
   pub memory : IfErr result HasOwnMemory
 
 -- The result of listing strings of a document: `Are` holds for the list.

@@ -13,7 +13,7 @@ use Rattle.subst_toml.specs.Outcome.{ReadsAsTree}
 use Rattle.subst_toml.specs.Paths.{steps_of, Leads}
 use Rattle.subst_toml.specs.declared.path.Path.{Path}
 
--- a token, in single quotes, of the string that is the number n in decimal digits
+-- the token, in single quotes, that spells the number n in decimal digits
 abbrev pub index_token : ℕ → List ℕ
 index_token n = codes "'" ++ (decimal n ++ codes "'")
 
@@ -38,10 +38,10 @@ pub record IsListing (source : List ℕ) (list : List StringAt) : Type 0 where
 -- The list has all refused strings of the document, each with its span.
 pub record AreAllRefused (ask : List ℕ → Answer → Type 0) (source : List ℕ) (all : List (RefusalAt Path))
     : Type 0 where
-  -- each has the span and the path of the string
+  -- each refusal has its string's span, and a path that leads to the string
   pub each : AreRefusedIn ask source all
-  -- they are the refusals of all strings of the text, in order, and no other string is refused
+  -- they are the refusals of the document's strings, in order; each other string has an output
   pub refused : AreAllRefusals ask source (map refusal_in all)
-  -- each span is that of the string, and each path leads to it in the tree
+  -- each span spells its string, and each path leads to that string in the tree of `source`
   pub found : ReadsAsTree source (λ d. AllByRecursion (IsFound source d) all)
   pub range : AllByRecursion HasFaultInText (map refusal_in all)

@@ -4,8 +4,8 @@ use Rattle.toml.specs.Data.{Data, string, integer, float, boolean, datetime, arr
 use Rattle.subst_language.specs.Language.LookUp.{LookUp}
 use Rattle.subst_language.specs.Language.Several.{GivesBy, under}
 
--- The strings of a tree: those of an array by index, and those of a table in the reader's order, by the bytes
--- of keys. Keys and dates aren't among them.
+-- The strings of a tree, in order. Arrays are visited by index, and tables in the reader's order, which is
+-- the byte order of their keys. Keys and dates aren't strings of the tree.
 abbrev mutual
   pub strings : Data → List (List ℕ)
   strings (string s) = s ∷ []

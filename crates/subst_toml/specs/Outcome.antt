@@ -29,7 +29,7 @@ IsPrinted ms text =
     × (members_have_valid_dates ms ≡ true → IsDocumentText false ms text)
     × (members_have_valid_dates ms ≡ true → members_depth ms ≤ 80 → parse_document text ≡ Some ms)
 
--- `result` is a result of converting into a type the tree d, with its strings filled in, printed. `Reads`
+-- `result` is a result of filling in the tree d, printing it, and converting the text into a type. `Reads`
 -- relates a text to the results of converting it.
 abbrev pub IsReadFilledIn : {T : Type 0} → (List ℕ → Answer → Type 0)
     → (List ℕ → Result T reading.Error → Type 0) → Data → Result T reading.Error → Type 0
@@ -80,7 +80,7 @@ abbrev pub ReturnsTree : {V Seen : Type 0} → (V → List ℕ) → (V → Seen)
 ReturnsTree items see look_up s result = IfOk result
     (λ tree. ReadsAsTree s (λ d. IsEach (GivesBy (AnswersText items see look_up)) d (view tree)))
 
--- a call that succeeds returns the value into which the tree of the text s, filled in, is converted
+-- a call that succeeds returns the value into which the filled-in tree of the text s is converted
 abbrev pub ReadsType : {V Seen T : Type 0} → (V → List ℕ) → (V → Seen) → (List ℕ → Option Seen)
     → (List ℕ → Result T reading.Error → Type 0) → List ℕ → Result T Error → Type 0
 ReadsType items see look_up Reads s result = IfOk result
@@ -92,7 +92,8 @@ abbrev pub StatesFirst : {V Seen T : Type 0} → (V → List ℕ) → (V → See
 StatesFirst items see look_up s result = OnSubst result
     (λ f. ReadsAsTree s (λ d. RefusesFirst (AnswersText items see look_up) (strings d) f))
 
--- the error `Toml` is the reader's, if s isn't a document, or that of converting the tree of s, filled in
+-- the error `Toml` is the reader's if s isn't a document, and otherwise that of converting the filled-in tree
+-- of s
 abbrev pub StatesReading : {V Seen T : Type 0} → (V → List ℕ) → (V → Seen) → (List ℕ → Option Seen)
     → (List ℕ → Result T reading.Error → Type 0) → List ℕ → Result T Error → Type 0
 StatesReading items see look_up Reads s result = IfToml result

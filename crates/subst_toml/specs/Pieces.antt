@@ -1,4 +1,5 @@
--- Spans of many ranges of one string. Each piece of the string's token is read by itself.
+-- The spans in a TOML document that spell many ranges of one string. Each piece of the string's token is read
+-- by itself.
 use Rattle.std.specs.Prelude.{ℕ, ◌≤◌, ◌==◌, if◌then◌else◌, List, [], ◌∷◌, ◌++◌, length, slice_range}
 use Rattle.std.specs.declared.ops.Range.{Range}
 use Rattle.toml_parser.specs.Lexical.{line_feed}
@@ -7,8 +8,8 @@ use Rattle.subst_document.specs.Pieces.{position, ArePiecesFrom}
 use Rattle.subst_document.specs.declared.pieces.Position.{Position}
 use Rattle.subst_toml.specs.Places.{part_at, quotes_of, IsTokenOf, IsReadUpTo}
 
--- the piece between these quotes; three opening quotes are followed by a newline, which isn't part of the
--- string
+-- the piece, put between these quotes; three opening quotes are followed by a newline, which isn't part of
+-- the string
 abbrev pub between : List ℕ → List ℕ → List ℕ
 between quotes piece =
     quotes ++ ((if length quotes == 3 then line_feed ∷ [] else []) ++ (piece ++ quotes))

@@ -1,4 +1,4 @@
-//! Filling in of a document's strings in place, with comments, keys, the order of lines and every other byte
+//! Filling in of a document's strings in place. Comments, keys, the order of lines and every other byte are
 //! kept.
 //!
 //! A walk over the text finds its strings, and each one that changes is rewritten. The output is then read
@@ -101,8 +101,8 @@ pub fn fill_in_by<F: Fill>(alloc: Global, source: &str, filler: &F) -> Result<Op
     }
 }
 
-/// Returns a document with its strings filled in. Returns `None` if a string is refused, or if a string
-/// changes but its old or new token isn't found.
+/// Returns a document with its strings filled in. Returns `None` if a string is refused. The result is also
+/// `None` if a string changes and isn't spelled at its span, or if no token for its new value is found.
 fn written<F: Fill>(alloc: Global, source: &str, filler: &F) -> Result<Option<String>, AllocError>
     ensures { IfOk result (λ output. IfSome output (λ output.
         IsFilledIn (GivesBy (F.answers filler.now)) source.now (string_bytes output))) }

@@ -4,17 +4,17 @@
 //! shape of the tree are kept. Arrays are visited by index, and tables in the byte order of their keys; the
 //! error is that of the first refused string.
 //!
-//! [`substitute_string_values`] fills in a tree in place. [`value_from_str`] and [`value_from_slice`] read a
-//! document first, whose tree is a table. [`from_str`] and [`from_slice`] then convert it into a type of the
-//! caller's, by `serde`.
+//! [`substitute_string_values`] fills in a tree in place. [`value_from_str`] and [`value_from_slice`] first
+//! read a document; its tree is a table. [`from_str`] and [`from_slice`] also convert the filled-in tree into
+//! a type of the caller's, by `serde`.
 //!
 //! [`fill_in`], [`fill_in_slice`] and [`fill_in_by`] fill in the strings of a document, and keep every other
 //! byte of it. [`strings`] lists the strings of a document, and [`refusals_in`] the refused ones.
 //! [`place_in`] finds the span of a part of a string, such as the range of a fault.
 //!
-//! The walk recurses into nested arrays and tables. The reader allows 80 parts of a key and 80 arrays and
-//! inline tables, so a document nests up to 6,639 deep. 7.5 MiB of stack were enough for that. A deeper tree,
-//! built by a caller, takes proportionally more stack.
+//! The walk recurses into nested arrays and tables. The reader allows 80 parts in a key, and 80 arrays and
+//! inline tables in one another, so a document nests up to 6,639 deep. 7.5 MiB of stack were enough for that.
+//! A deeper tree, built by a caller, takes proportionally more stack.
 #![tactic(auto)]
 
 ghost use Rattle.std.specs.Prelude.{◌≡◌, IfErr, IfOk, IsUtf8, MatchResult, None, OnErr, OnOk};
@@ -143,7 +143,7 @@ where
     M::Value: AsStr + Drop,
     ensures ok { ReturnsTree M.Value.text M.see (M.look_up variables.now) source.now result }
 
-    // `InvalidUtf8` is returned exactly if the bytes aren't UTF-8, with the length of the valid prefix.
+    // `InvalidUtf8`, with the length of the valid prefix, is returned exactly if the bytes aren't UTF-8.
     ensures utf8 { StatesUtf8 source.now result }
     ensures toml { OnToml result (parse_document source.now ≡ None) }
     ensures span { IfToml result (IsWithin source.now) }
@@ -171,11 +171,11 @@ pub fn from_str<'a, T: FromText, M: VariableMap<'a>>(
 where
     M::Value: AsStr + Drop,
 
-    // The result of the conversion for the tree with its strings filled in, printed.
+    // The filled-in tree is printed, and the text is converted into the value.
     ensures ok { ReadsType M.Value.text M.see (M.look_up variables.now) T.reads source.now result }
     ensures utf8 { StatesUtf8 source.now result }
 
-    // `Toml` is the reader's error, of a text that isn't a document, or that of the conversion.
+    // `Toml` is either the reader's error for a text that isn't a document, or the error of the conversion.
     ensures toml { StatesReading M.Value.text M.see (M.look_up variables.now) T.reads
         source.now result }
     ensures subst { StatesFirst M.Value.text M.see (M.look_up variables.now) source.now result }

@@ -21,15 +21,15 @@ pub(crate) mod spelling;
 /// the byte range in `source` of the string with its quotes, as returned by [`strings`](crate::strings).
 /// `range` is in byte offsets of the string.
 ///
-/// The span begins at the spelling of the character at `range.start`, or at the closing quotes for the
-/// string's end. It skips the newline after the opening quotes of a multi-line string. It also skips a
-/// backslash at a line's end, with the white space and newlines after it. The span ends after the spelling of
-/// the last character; if that is a carriage return before a line feed, after both. The span of an empty
-/// range is empty.
+/// The span begins at the spelling of the character at `range.start`, or at the closing quotes if the string
+/// ends there. Its beginning skips the newline after the opening quotes of a multi-line string. It also skips
+/// a backslash at a line's end, with the white space and newlines after it. The span ends after the spelling
+/// of the last character. If that character is a carriage return before a line feed, neither escaped, the
+/// span ends after both. The span of an empty range is empty.
 ///
 /// The result is `None` if the token isn't a string, or if an offset is past the string's end or inside a
-/// character. It is also `None` if the range begins between a carriage return and a line feed, which no
-/// document can separate.
+/// character. It is also `None` if the range begins between a carriage return and a line feed, neither
+/// escaped, since no document can separate the two.
 ///
 /// # Errors
 ///
@@ -72,8 +72,7 @@ pub fn place_in(
     }
 }
 
-/// Returns the string that a token would spell if it were `range` of `source`, followed by `quotes`. Returns
-/// `None` if that isn't the token of a string.
+/// Returns the string that `range` of `source`, closed by `quotes`, spells, or `None` if it spells no string.
 pub(crate) fn read_up_to(
     alloc: Global,
     source: &str,

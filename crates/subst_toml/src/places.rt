@@ -1,5 +1,5 @@
-//! Spans of many ranges of one string. Each piece of the string's token is read by itself between the quotes,
-//! and no span is returned that the reader doesn't confirm.
+//! The spans in a TOML document that spell many ranges of one string. Each piece of the string's token is
+//! read by itself between the quotes. Only spans that the reader confirms are returned.
 
 ghost use Rattle.std.specs.Prelude.{◌≡◌, ◌++◌, ◌∷◌, [], IfOk, IfSome, IsTrue, string_bytes};
 ghost use Rattle.subst_toml.specs.Places.{IsTokenOf};
@@ -12,7 +12,7 @@ use std::alloc::{AllocError, Global};
 use std::ops::Range;
 use subst_document::{Content, Pieces, Position, slice, spans};
 
-/// A token, the spelling of a string in the source, with that string.
+/// A token of the source, with the string that it spells.
 #[derive(Clone, Copy)]
 struct Token<'t> {
     source: &'t str,
@@ -46,7 +46,7 @@ impl Token<'_> {
         self.place_of(without_newline(self.content(opened)?, self.style()))
     }
 
-    /// Returns the offset in the source after the spelling of the next `len` bytes from `from` on. If
+    /// Returns the offset in the source after the spelling of `len` bytes that begins at `from`. If
     /// `is_start`, backslashes at a line's end, which spell nothing, are skipped too.
     fn place_after(&self, from: usize, len: usize, is_start: bool) -> Option<usize> {
         let rest = after_spelling(self.content(from)?, len, self.style())?;
@@ -205,7 +205,7 @@ pub(crate) fn reads_as(
     }
 }
 
-/// Returns a text between quotes. Three opening quotes are followed by a newline, which isn't part of the
+/// Puts a text between quotes. Three opening quotes are followed by a newline, which isn't part of the
 /// string.
 fn quoted(alloc: Global, quotes: &str, text: &str) -> Result<String, AllocError>
     ensures { IfOk result (λ token. string_bytes token ≡ between quotes.now text.now) }

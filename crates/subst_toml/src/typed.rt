@@ -1,6 +1,7 @@
 //! Conversion of a tree into a type of the caller's. The kit's `toml` reads types only from texts, so the
-//! conversion gets the tree as a printed text, and no variables. A tree that nests at most 80 deep is read
-//! back from the text. If a tree has a date that no text can hold, the text isn't TOML.
+//! tree is printed, and the type is read from the printed text. The conversion gets no variables. A tree that
+//! nests at most 80 deep is read back from the text. If a tree has a date that no text can hold, the text
+//! isn't TOML.
 
 ghost use Rattle.std.specs.Prelude.{◌≡◌, ◌≤◌, false, true, None, Some, Result, IfErr, IfOk, List, ℕ, string_bytes};
 ghost use Rattle.toml.specs.Data.{members_depth, members_have_valid_dates};
@@ -16,8 +17,9 @@ use toml::{Table, ser};
 
 /// A type that a text can be converted into: any that `serde` deserializes.
 pub trait FromText: Sized + Drop {
-    // The possible results for a text. For the types of `serde` only the position of an error is known. A
-    // contract that holds for all such relations still states which text is converted.
+    // The relation of a text and the possible results of its conversion. For the types of `serde`, it is only
+    // known that the span of an error is within the text. A contract that holds for every such relation still
+    // states which text is converted.
     ghost reads: { List ℕ → Result Self Error → Type 0 };
 
     /// Converts a text, or returns an error if it isn't a document or doesn't fit this type.

@@ -13,7 +13,7 @@ use Rattle.subst.specs.Styles.missing.{Nothing}
 use Rattle.subst_uses.specs.declared.compose.ComposeError.{ComposeError}
 use Rattle.subst_uses.specs.declared.compose.ComposeError.TheVariants.{Text, Variable}
 
--- the grammar of a shell's forms with all names
+-- the grammar of a shell's forms, with all names chosen
 abbrev pub compose : Grammar
 compose = grammar Shell true (λ operated name. Unit {0})
 
@@ -22,7 +22,7 @@ abbrev pub IsValueOf : LookUp → (s : List ℕ) → Given → Type 0
 IsValueOf look s given = (items : text.Text) × text.IsText compose false items [] × (s ≡ text.spelling items)
     × (text.text_value Shell Nothing items look ≡ given)
 
--- the fault states the missing variable of the text s; its name may have a digit before it, which a
+-- the fault states the missing variable of the text s; the name in the fault may begin with a digit that a
 -- `ShellMap` reads
 abbrev pub IsMissingOf : LookUp → (s : List ℕ) → Fault → Type 0
 IsMissingOf look s f = (position : ℕ) × (name : List ℕ) × (f ≡ NoSuchVariable position name)

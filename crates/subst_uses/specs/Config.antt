@@ -19,8 +19,8 @@ use Rattle.subst_uses.specs.declared.config.Loaded.TheVariants.{Configuration, R
 abbrev pub CanFillIn : (List ℕ → Answer → Type 0) → List ℕ → Type 0
 CanFillIn ask s = ReadsAsTree s (λ d. (e : Data) × IsEach (GivesBy ask) d e)
 
--- `text` is a report for the text s of a file: of the reader's message, if `IsUnread` holds, or of all
--- refused strings of s.
+-- `text` is a report for the text s of a file. Either `IsUnread` holds, and the report is the reader's
+-- message; or the report has all refused strings of s.
 abbrev pub IsReported : (List ℕ → Answer → Type 0) → (file s : List ℕ) → Type 0 → List ℕ → Type 0
 IsReported ask file s IsUnread text =
     (IsUnread × ReportsReader file s text)

@@ -16,7 +16,7 @@ use Rattle.subst_uses.specs.declared.report.Outcome.{Outcome}
 use Rattle.subst_uses.specs.declared.report.Outcome.TheVariants.{Output, Report}
 
 -- `file:line:column: fault`, and then the line of the fault, underlined; `None` if the fault quotes a
--- character that isn't ASCII, which may be escaped or not
+-- character that isn't ASCII, since contracts don't state whether such a character is escaped
 abbrev pub report_of : List ℕ → Option Fault → List ℕ → Option (List ℕ)
 report_of file e s =
     let place = position_of e s in

@@ -20,8 +20,8 @@ use Rattle.subst_uses.specs.declared.config.Loaded.TheVariants.{Configuration, R
 abbrev pub CanFillIn : (List ℕ → Answer → Type 0) → List ℕ → Type 0
 CanFillIn ask s = ReadsAsTree s (λ d. (e : Data) × IsEach (GivesBy ask) d e)
 
--- `text` is a report for the text s of a file: of the reader's message, if `AreUnread` holds, or of all
--- refused strings of s.
+-- `text` is a report for the text s of a file. Either `AreUnread` holds, and the report is the reader's
+-- message; or the report has all refused strings of s.
 abbrev pub AreReported : (List ℕ → Answer → Type 0) → (file s : List ℕ) → Type 0 → List ℕ → Type 0
 AreReported ask file s AreUnread text =
     (AreUnread × ((e : reading.Error) × ReportsReader e file s text))

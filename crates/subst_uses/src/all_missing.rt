@@ -1,4 +1,4 @@
-//! A text expanded, or a report of all its missing variables, each with its line underlined.
+//! The output of a text, or a report of all its missing variables, each with its underlined line.
 
 ghost use Rattle.std.specs.Prelude.{IfOk, map, string_bytes};
 ghost use Rattle.std.specs.List.{All};

@@ -73,8 +73,8 @@ impl<'t> Cached<'t> {
         &self.output
     }
 
-    /// Expands the template with `variables`. Reuses the latest output if `variables` agree with those of its
-    /// expansion on each variable of the template, even in defaults.
+    /// Expands the template with `variables`. Reuses the latest output if no variable of the template has
+    /// changed since that output. Variables in defaults are compared too.
     ///
     /// # Errors
     ///

@@ -45,7 +45,7 @@ pub fn load(
     }
 }
 
-/// Returns the configuration of a file as a type, or a report of its errors.
+/// Returns the configuration of a file as a `T`, or a report of the file's errors.
 ///
 /// # Errors
 ///

@@ -35,7 +35,7 @@ pub fn early_fault(alloc: Global, lines: &str) -> Result<Option<ParseError>, All
     }
 }
 
-/// Returns whether `e`, the fault of a text of `end` bytes, remains whatever text follows.
+/// Returns whether the fault `e` remains, whatever is appended to the text. The text has `end` bytes.
 ///
 /// # Errors
 ///

@@ -14,7 +14,7 @@ use std::collections::BTreeMap;
 use std::convert::AsSlice;
 use subst::{Error, VariableMap, laws, substitute_bytes, substitute_bytes_owned, substitute_owned};
 
-/// Expands a source without dollars and backslashes: the output is the source, with any map.
+/// Expands a source without dollars and backslashes. The output is the source, for every map.
 ///
 /// # Errors
 ///

@@ -38,7 +38,7 @@ pub fn load(
     }
 }
 
-/// Returns the settings of a file as a type, or a report of the file's errors.
+/// Returns the settings of a file as a `T`, or a report of the file's errors.
 ///
 /// # Errors
 ///

@@ -1,4 +1,4 @@
-//! Words that have to stay literal: escaped, alone and between templates.
+//! Escapes words that have to stay literal, on their own and between templates.
 
 ghost use Rattle.std.specs.Prelude.{◌≡◌, ◌++◌, ℕ, List, IfOk, IfSome, codes, string_bytes};
 ghost use Rattle.subst.specs.Language.Answer.{Answers, Gives};
@@ -11,7 +11,7 @@ use std::collections::BTreeMap;
 use std::convert::AsStr;
 use subst::{Error, VariableMap, laws, substitute};
 
-/// Escapes a text, and expands the result: the output is the text, with any map.
+/// Escapes a text, and expands the result. The output is the text, for every map.
 ///
 /// # Errors
 ///

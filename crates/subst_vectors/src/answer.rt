@@ -12,7 +12,7 @@ pub enum Answer {
     Gives(Vec<u8>),
     /// The fault of the source or of the first refused string, or a missing variable.
     Refuses(Error),
-    /// The source isn't JSON, TOML or UTF-8. The text is the name of the reader's error.
+    /// The source isn't JSON, TOML or UTF-8. The text names the error: `Json`, `Toml` or `InvalidUtf8`.
     IsNot(&'static str),
     /// The column of the variables and the column of the missing ones, separated by a tab.
     Lists(String),

@@ -44,8 +44,8 @@ fn call_text<F: Format>(text: &str, values: &Texts, ways: &mut Ways) -> Result<(
     }
 }
 
-/// Returns whether the list of a text's faults agrees with two other results. The list has to be empty
-/// exactly if the text is filled in, and to have the fault of the tree, if any.
+/// Returns whether the list of a text's faults agrees with two other results. The list must be empty exactly
+/// if the text is filled in. If the tree is refused, its fault must be in the list.
 fn are_as_refused<E>(
     refusals: &Result<Option<Vec<Error>>, E>,
     filled: &Result<Option<String>, E>,
@@ -84,8 +84,8 @@ fn answer<F: Format>(alloc: Global, read: Result<F::Tree, F::Error>) -> Result<A
     }
 }
 
-/// Reads a filled-in text as a tree, and returns the answer. If both text and tree are refused and keys may
-/// be equal, returns the fault of the tree: the first refused string of the text may be another.
+/// Reads a filled-in text as a tree, and returns the answer. If text and tree are both refused and keys may
+/// be equal, returns the fault of the tree. The text's fault may be that of another string.
 fn read_again<F: Format>(
     alloc: Global,
     filled: Result<Option<String>, F::Error>,

@@ -73,8 +73,8 @@ fn by_owner(source: &str, values: &Values, ways: &mut Ways) -> Result<(), AllocE
     }
 }
 
-/// Returns whether the missing variables agree with the result `filled` of an expansion: there are none if it
-/// is an output, and otherwise the first is its fault.
+/// Returns whether the missing variables agree with `filled`, the result of an expansion. If `filled` is an
+/// output, none may be missing. Otherwise the first missing variable must be its fault.
 pub fn is_as_refused(missing: &[NoSuchVariable], filled: &Result<Vec<u8>, Error>) -> bool {
     match (missing.first(), filled) {
         (None, Ok(_)) => true,

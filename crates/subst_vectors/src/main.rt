@@ -1,8 +1,8 @@
 //! Runs the rows of files by every call: `subst_vectors FILE..`.
 //!
 //! `data/README.md` describes the rows. For each file, the program prints how many rows hold, or each row
-//! that doesn't, with the expected answer, the actual one, and the call. The exit status is then 1, as it is
-//! if a row is malformed or a file can't be read.
+//! that doesn't, with the expected answer, the actual one, and the call. The exit status is 1 if a row
+//! doesn't hold or is malformed, or if a file can't be read.
 #![tactic(auto)]
 
 use std::process::ExitCode;

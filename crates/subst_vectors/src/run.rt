@@ -36,7 +36,8 @@ pub fn rows_hold(rt: &HostRuntime, file: &str) -> io::Result<bool> {
     Ok(hold)
 }
 
-/// Returns this library's text for `AFTER_NAME`. Rows from the Rust crate have `AFTER_NAME` instead.
+/// Returns this library's wording of the characters expected after a name. Rows from the Rust crate have the
+/// wording `AFTER_NAME` instead.
 fn after_name(alloc: Global) -> Result<String, AllocError> {
     match ByteTemplate::from_slice(alloc, b"${a(") {
         Err(ParseError::UnexpectedCharacter(e)) => String::from_str(alloc, e.expected.message()),
@@ -56,7 +57,8 @@ fn difference(alloc: Global, line: &str, after_name: &str) -> Result<String, All
     }
 }
 
-/// Returns the source as a text if the columns of the row's faults have a source line, or `None` if not.
+/// Returns the source as a text, for the source line in a fault's columns. Returns `None` if the source isn't
+/// UTF-8, or if the row's kind isn't `Bytes`.
 fn source_text<'r>(row: &'r Row<'_>) -> Option<&'r str> {
     match from_utf8(&row.source) {
         Ok(text) if row.kind == Kind::Bytes => Some(text),

@@ -43,7 +43,7 @@ fn members_as_json(alloc: Global, members: &Table) -> Result<Map<String, Value>,
     Ok(trees)
 }
 
-/// Returns a date as an array of the text `date`, null, and the text of the date.
+/// Returns a date as an array of three items: the text `"date"`, null, and the text of the date.
 fn date_as_json(alloc: Global, date: &Datetime) -> Result<Value, AllocError> {
     let text = format!(in alloc; "{date}")?;
     let mut items = Vec::with_capacity(alloc, 3)?;

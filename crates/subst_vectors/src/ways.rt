@@ -36,8 +36,8 @@ impl Ways {
         }
     }
 
-    /// Returns a text of the expected answer, and each other answer with the calls that returned it. The text
-    /// is empty if all calls returned the expected answer.
+    /// Returns the differences from the expected answer as a text: that answer, and then each other answer
+    /// with the calls that returned it. The text is empty if all calls returned the expected answer.
     pub fn difference(&self, source: Option<&str>, expected: &str) -> Result<String, AllocError> {
         let mut text = String::new(self.alloc);
         let module = self.module;

@@ -1,7 +1,7 @@
 //! The version of this project, defined only here.
 #![tactic(auto)]
 
-/// Expands to a number of the version, or to its text.
+/// Expands to one of the version's three numbers, or to the version as a text.
 macro_rules! version {
     ($part:ident) => {
         version!($part of 0, 3, 0)

@@ -1,5 +1,5 @@
--- Errors of calls that fill in: how they are made from errors of the reader or of a substitution, and their
--- texts.
+-- Errors of calls that fill in YAML: how they are made from errors of the reader or of a substitution, and
+-- how they are displayed.
 use Rattle.std.specs.Prelude.{◌≡◌, ⊤, ℕ, List, ◌++◌, Option, Some, None, codes, IsSome}
 use Rattle.std.specs.Fmt.{decimal}
 use Rattle.subst_error.specs.Display.{display_of_error}
@@ -13,7 +13,7 @@ use Rattle.subst_yaml.specs.declared.error.Fault.{Fault}
 use Rattle.subst_yaml.specs.declared.error.Reason.{Reason}
 use Rattle.subst_yaml.specs.declared.error.Reason.TheVariants.{InvalidUtf8, Reader}
 
--- `error` is `Yaml` of this error of the reader, or `OutOfMemory` if that is a failure to allocate
+-- the error is `Yaml` of the reader's refusal, or `OutOfMemory` if the reader failed to allocate
 abbrev pub IsOfReader : reading.Error → Error → Type 0
 IsOfReader (reading.TheVariants.Refused fault) error = error ≡ Yaml (record {
   reason = Reader fault.reason;
@@ -30,7 +30,7 @@ IsOfSubstitution e (Yaml d) = ⊥
 IsOfSubstitution e (Subst d) = (d ≡ e) × IsSome (error_fault e)
 IsOfSubstitution e (OutOfMemory d) = error_fault e ≡ None
 
--- only the case `OutOfMemory` states that memory ran out
+-- a failure to allocate is the case `OutOfMemory`, and never the inner error of `Subst`
 abbrev pub HasOwnMemory : Error → Type 0
 HasOwnMemory (Yaml e) = ⊤
 HasOwnMemory (Subst e) = IsSome (error_fault e)
@@ -45,7 +45,7 @@ display_of_reason (Reader reason) = reader.display_of_reason reason
 abbrev pub display_of_fault : Fault → List ℕ
 display_of_fault fault = codes "line " ++ (decimal fault.line ++ (codes ": " ++ display_of_reason fault.reason))
 
--- the text of an error, if it is known
+-- the text of an error, or `None` if the text quotes a character that isn't ASCII
 abbrev pub display_of_yaml : Error → Option (List ℕ)
 display_of_yaml (Yaml fault) = Some (display_of_fault fault)
 display_of_yaml (Subst e) = display_of_error (error_fault e)

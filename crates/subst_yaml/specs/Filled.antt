@@ -35,13 +35,14 @@ text_of bytes = if is_utf8 bytes then Some bytes else None
 unfoldable pub string_of : Style → (indent : ℕ) → (token : List ℕ) → Option (List ℕ)
 string_of style indent token = option_and_then text_of (value_of style indent token)
 
--- the list of the string `value`, if there is one and it may change, and otherwise the empty list
+-- a list of the one string `value`, or the empty list if there is no string or `may_change` is false
 abbrev pub strings_if : (may_change : Bool) → (value : Option (List ℕ)) → List (List ℕ)
 strings_if true (Some x) = x ∷ []
 strings_if true None = []
 strings_if false value = []
 
--- the list of the string that a value's token spells, if it may change, and otherwise the empty list
+-- a list of the one string that a value's token spells, or the empty list if there is none or the value can't
+-- change
 abbrev pub strings_of : Style → (indent : ℕ) → (token : List ℕ) → List (List ℕ)
 strings_of style indent token = strings_if (may_change style token) (string_of style indent token)
 
@@ -114,16 +115,17 @@ is_block _ = false
 abbrev pub is_unblocked : Style → Style → Bool
 is_unblocked style other = is_block style && not (is_block other)
 
--- The bytes that have to be right after the token of the second event, in the output. If both events are
--- values, and only the first is after `|` or `>`, they are the comment and line end of its header. Otherwise
+-- The bytes that must directly follow the token of the second event in the output. If both events are values,
+-- and only the first is after `|` or `>`, these bytes are the comment and line end of its header. Otherwise
 -- there are none.
 abbrev pub rest_of_value : (source : List ℕ) → Event → Event → List ℕ
 rest_of_value source (Value style span in_flow indent) (Value other_style other other_in_flow other_indent) =
     if is_unblocked style other_style then header_rest (token_at source span) else []
 rest_of_value source _ _ = []
 
--- The first value is filled in as the second, each with a style, an indentation and a token. Either the first
--- is unchanged, and both are the same, or its string becomes the string of the second.
+-- The first value is filled in as the second. Each value is a style, an indentation and a token. Either the
+-- first value is unchanged, and the second is the same. Or the string of the first becomes the string of the
+-- second.
 abbrev pub IsFilledValue : (ask : List ℕ → Answer → Type 0) → Style → (indent : ℕ) → (token : List ℕ)
     → Style → (indent : ℕ) → (token : List ℕ) → Type 0
 IsFilledValue ask style indent token other_style other_indent other =
@@ -145,8 +147,8 @@ IsFilledEvent ask source output (FlowKey style span) f =
 IsFilledEvent ask source output e f = f ≡ e
 
 -- The events of `source`, the first list, are filled in one by one as those of `output`, the second list.
--- From the positions i and j on, all bytes outside of the events' tokens are equal. After a value in quotes
--- that was after `|` or `>`, the rest of its header is kept.
+-- From the positions i and j on, all bytes outside of the events' tokens are equal. If a value is after `|`
+-- or `>` only in `source`, the rest of its header is kept after its token in `output`.
 abbrev pub AreFilled : (ask : List ℕ → Answer → Type 0) → (source output : List ℕ) → (i j : ℕ) → List Event
     → List Event → Type 0
 AreFilled ask source output i j [] fs = (fs ≡ []) × (drop j output ≡ drop i source)

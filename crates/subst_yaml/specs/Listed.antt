@@ -1,4 +1,4 @@
--- The strings of the values of a text of YAML that may change, and the refused ones, with their spans and
+-- Strings of a text of YAML: those of the values that may change, and the refused ones, with their spans and
 -- paths. `ask` relates a string to its answers.
 use Rattle.std.specs.Prelude.{◌≡◌, ◌⊎◌, ◌≤◌, true, ℕ, List, [], ◌∷◌, ◌++◌, length, map, min, slice_range, Some, None, Result, Vec, IfErr, IfOk, string_bytes}
 use Rattle.std.specs.Global.{Global}
@@ -43,7 +43,7 @@ spelled_at text (Value style span in_flow indent) =
     map (λ x. record { text = x; span = range_in text span }) (strings_of style indent (token_at text span))
 spelled_at text _ = []
 
--- the strings of the values that may change, each with its token, in the order of the text
+-- the strings of the values that may change, in the order of the text, each with the range of its token
 abbrev pub spelled_in : (text : List ℕ) → List Event → List Spelled
 spelled_in text [] = []
 spelled_in text (e ∷ es) = spelled_at text e ++ spelled_in text es
@@ -58,8 +58,8 @@ abbrev pub found_at : (text : List ℕ) → Trail → Event → List Found
 found_at text trail e =
     map (λ it. record { text = it.text; span = it.span; path = path_at text trail }) (spelled_at text e)
 
--- the strings of the values that may change, with spans and paths, from these events; `trail` is the path to
--- the next value before the events
+-- the strings of these events' values that may change, with their spans and paths; `trail` is the trail
+-- before the first event
 abbrev pub found_in : (text : List ℕ) → Trail → List Event → List Found
 found_in text trail [] = []
 found_in text trail (e ∷ es) = found_at text trail e ++ found_in text (after_event trail e) es
@@ -104,7 +104,7 @@ pub record IsRefusalOf (ask : List ℕ → Answer → Type 0) (it : Found) (refu
   pub refused : ask it.text (Refuses fault)
   pub range : IsRangeIn it.text (range_of (error_fault refusal.error))
 
--- Each string of the list, in order, has the next refusal or is filled in, and no refusal is left.
+-- The refusals are those of the refused strings, in order, and every other string is filled in.
 abbrev pub AreRefusalsOf : (ask : List ℕ → Answer → Type 0) → List Found → List RefusalAt → Type 0
 AreRefusalsOf ask [] refusals = refusals ≡ []
 AreRefusalsOf ask (it ∷ rest) refusals =

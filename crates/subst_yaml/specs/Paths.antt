@@ -23,7 +23,7 @@ pub record Path : Type 0 where
 abbrev pub path_of : code.Path → Path
 path_of path = record { document = path.document; steps = map step_of path.steps.items }
 
--- the displayed text of a step: a key, as it is written, after the text `dot`, or an index in brackets
+-- the displayed text of a step: `dot` and then a key as it is written, or an index in brackets
 abbrev pub step_text : (dot : List ℕ) → PathStep → List ℕ
 step_text dot (Key key) = dot ++ key
 step_text dot (Index i) = codes "[" ++ (decimal i ++ codes "]")
@@ -33,7 +33,7 @@ abbrev pub steps_text : List PathStep → List ℕ
 steps_text [] = []
 steps_text (first ∷ steps) = step_text [] first ++ flat_map (step_text (codes ".")) steps
 
--- a colon after the number of a document, before steps
+-- a colon if steps follow the number of a document, and otherwise nothing
 abbrev pub colon_before : List PathStep → List ℕ
 colon_before [] = []
 colon_before (first ∷ steps) = codes ":"
@@ -46,8 +46,8 @@ document_text n steps = if nat_lt 1 n then decimal n ++ colon_before steps else 
 abbrev pub path_text : Path → List ℕ
 path_text path = document_text path.document path.steps ++ steps_text path.steps
 
--- The path to the next value, while the events of a text are read. A key is the span of its token, and an
--- item in brackets is distinct from an item without.
+-- The path to the next value, while the events of a text are read. The step to the value of a key is the span
+-- of the key's token. Items of sequences with and without brackets are distinct kinds of steps.
 pub record Trail : Type 0 where
   pub document : ℕ
   pub steps : List StepAt
@@ -93,7 +93,8 @@ left trail = with_steps (take (length trail.steps - 1) trail.steps) trail
 abbrev pub last_step : Trail → Option StepAt
 last_step trail = slice_get trail.steps (length trail.steps - 1)
 
--- the trail after a value, if its last step is this one: in a sequence in brackets, it leads to the next item
+-- the trail after a value, from the last step of the trail: an item in brackets is replaced by the next one,
+-- and any other step is kept
 abbrev pub past : Option StepAt → Trail → Trail
 past (Some (step.Member i)) trail = entered (step.Member (i + 1)) (left trail)
 past (Some (step.Key span)) trail = trail

@@ -36,8 +36,8 @@ AreInOrder from (range ∷ ranges) to =
 abbrev pub is_white : ℕ → Bool
 is_white b = b == 32 || b == 9 || b == 10
 
--- The range `short` of the string x is `range`, or `range` without white space at its end, where a line may
--- end.
+-- The range `short` of the string x is `range`, perhaps without white space at its end, since a line may end
+-- there.
 pub record IsShortened (x : List ℕ) (range short : Range ℕ) : Type 0 where
   pub start : short.start ≡ range.start
   pub before : short.end ≤ range.end
@@ -53,9 +53,10 @@ abbrev pub value_at : Range ℕ → Style → Bool → (indent : ℕ) → Event
 value_at token style in_flow indent =
     Value style (record { start = token.start; «end» = token.end }) in_flow indent
 
--- `token` is the range of a value's token in the text s, and the `places` spell these ranges of the value's
+-- `token` is the range of a value's token in the text s, and the `places` spell the `ranges` of the value's
 -- string. With sentinels at both ends of each place, the token is read as the string with sentinels at both
--- ends of each range. In `short`, a range may lack white space at its end, where a line may end.
+-- ends of each range. For this, the ranges in `short` are used: each may lack white space at its end, since a
+-- line may end there.
 pub record ArePlacesIn (s : List ℕ) (token : Range ℕ) (ranges places : List (Range ℕ)) : Type 0 where
   pub style : Style
   pub in_flow : Bool

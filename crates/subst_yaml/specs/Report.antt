@@ -29,7 +29,7 @@ ReportsReader fault file s text =
     (place : Range ℕ) × IsRangeIn s place × (IsRangeIn s (span_of fault) → place ≡ span_of fault)
     × (text ≡ lines_of file s (Some place) (display_of_reason fault.reason))
 
--- `text` is the report of this error, of a call that filled in s, the text of `file`
+-- `text` is the report of this error, which came from filling in s, the text of `file`
 abbrev pub Reports : (List ℕ → Answer → Type 0) → (file s : List ℕ) → Error → List ℕ → Type 0
 Reports ask file s (Yaml fault) text = ReportsReader fault file s text
 Reports ask file s (Subst e) text = ReportsAll (AreAllRefused ask s) ReportsRefused file s (error_fault e) text

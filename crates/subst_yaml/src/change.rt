@@ -29,7 +29,7 @@ fn text_of(bytes: Vec<u8>) -> Option<String>
 {
     match String::from_utf8(bytes) {
         Ok(text) => {
-            // From a borrow, the proof knows that the string is text.
+            // Only the proof needs this borrow: the bytes of a `&str` are known to be UTF-8.
             let _text = text.as_str();
             Some(text)
         }

@@ -73,8 +73,9 @@ fn is_unblocked(style: Style, other: Style) -> bool
     is_block(style) && !is_block(other)
 }
 
-/// Returns the bytes that have to be right after the token of `other` in the output. If both events are
-/// values, and only `event` is after `|` or `>`, they are the rest of its header's line, and otherwise none.
+/// Returns the bytes that must directly follow the token of `other` in the output. If both events are values,
+/// and only `event` is after `|` or `>`, these bytes are the rest of its header's line. Otherwise there are
+/// none.
 fn rest_of_value(source: &[u8], event: Event, other: Event) -> &[u8]
     ensures { result.now ≡ rest_of_value source.now event other }
 {

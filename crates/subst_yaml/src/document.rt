@@ -38,7 +38,8 @@ use subst_yaml_reader::Span;
 ///
 /// # Errors
 ///
-/// - `Yaml` if the source is refused by the reader, whatever its values are; the error has the line.
+/// - `Yaml` if the source is refused by the reader, even if one of its strings is refused too; the error has
+///   the line.
 /// - `Subst` for the first refused string, in the order of the text. Positions are byte offsets in that
 ///   string.
 /// - `OutOfMemory` if allocation fails.

@@ -125,7 +125,7 @@ impl fmt::Display for Error {
 
     ghost output = { display_of_yaml };
 
-    // The clause `text` also holds if the error quotes a character past ASCII, which is displayed in one of
+    // The clause `text` also covers an error that quotes a character past ASCII, which is displayed in one of
     // two forms.
     fn fmt<W: fmt::Write>(&self, f: &mut fmt::Formatter<W>) -> fmt::Result
         ensures writes { DisplaysOnOk W.write_str_gives f.old result

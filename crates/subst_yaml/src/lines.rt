@@ -1,5 +1,7 @@
-//! Spells values over several lines, which keep their lines if each can be filled in by itself. No contract
-//! states how: a token is used only if it is read as the value, and the output is compared with the source.
+//! Spells values over several lines. Such a value keeps its lines if each line can be filled in by itself.
+//!
+//! No contract states how tokens are spelled. A token filled in by lines is used only if it is read as the
+//! value, and the output is compared with the source.
 
 use crate::change::{Change, change_of, string_of};
 use crate::spell::{
@@ -13,8 +15,8 @@ use subst_document::Fill;
 use subst_error::Error;
 use subst_yaml_reader::Style;
 
-/// Returns a new token for `value`: the old token at `place` with each line filled in if it is then read as
-/// `value`, and otherwise `value` spelled as a whole.
+/// Returns a new token for `value`: the old token at `place` with each line filled in, provided that it fits
+/// and is read as `value`. Otherwise returns `value` spelled as a whole.
 ///
 /// # Errors
 ///
@@ -49,7 +51,8 @@ fn is_read_as(
     }
 }
 
-/// Returns whether any line but a token's first begins with `---`, `...` or `%`, which may end a document.
+/// Returns whether a token has a line, other than its first, that begins with `---`, `...` or `%`. Such a
+/// line may end a document. Also returns `true` if the token isn't UTF-8.
 fn has_mark(token: &[u8]) -> bool {
     match from_utf8(token) {
         Ok(token) => ["\n---", "\n...", "\n%"]
@@ -107,7 +110,8 @@ fn change_in_line<F: Fill>(
     }
 }
 
-/// Returns the token at `place`, quoted or not, with each line filled in, or `None` if a line can't be.
+/// Returns the token at `place`, quoted or not, with each line filled in. Returns `None` if a line can't be
+/// filled in by itself.
 fn filled_words<F: Fill>(
     alloc: Global,
     place: Place<'_>,
@@ -177,7 +181,8 @@ fn append_line<F: Fill>(
     Ok(true)
 }
 
-/// Returns the token at `place`, in the style `>`, with each line filled in, or `None` if a line can't be.
+/// Returns the token at `place`, which has the style `>`, with each line filled in. Returns `None` if a line
+/// can't be filled in by itself.
 fn filled_block<F: Fill>(
     alloc: Global,
     place: Place<'_>,

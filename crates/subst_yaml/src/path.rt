@@ -11,7 +11,7 @@ use subst_document::PathStep;
 
 /// The path to a value of a text. It displays as keys with dots between them and indices in brackets, such as
 /// `services.web.ports[0]`. From the second document on, the number of the document and a colon come first,
-/// as in `2:kind`. If the value is the whole document, the number is alone.
+/// as in `2:kind`. The colon is left out if the value is the whole document.
 #[derive(Clone, Debug, PartialEq, Eq, Drop)]
 pub struct Path {
     /// The number of the document, from 1.
@@ -39,8 +39,8 @@ impl Path {
     }
 }
 
-/// Writes the number of the document, from the second one on, and a colon if there are steps. Then come the
-/// keys as they are written, with dots between them, and the indices in brackets.
+/// Writes the path: the keys as they are written, with dots between them, and the indices in brackets. From
+/// the second document on, the document's number comes first, with a colon if there are steps.
 impl fmt::Display for Path {
     ghost output = { λ path. Some (path_text (path_of path)) };
 
@@ -50,7 +50,8 @@ impl fmt::Display for Path {
     }
 }
 
-/// Writes the number of a document, unless it is the first one, and a colon if there are steps.
+/// Writes the number of a document, and a colon if there are steps. For the first document, nothing is
+/// written.
 ///
 /// # Errors
 ///

@@ -1,4 +1,4 @@
-//! The path to the next value of a text, which each event updates.
+//! Keeps the path to the next value of a text while its events are read.
 
 ghost use Rattle.std.specs.Prelude.{◌≡◌, ◌∷◌, ◌++◌, ◌-◌, [], IfOk, slice_get, string_bytes, take};
 ghost use Rattle.subst_document.specs.Paths.{step_of};
@@ -31,7 +31,8 @@ pub(crate) struct Trail {
     steps: Vec<StepAt>,
 }
 
-/// Returns the index of the item after the step `last`, or 0 if `last` isn't to an item without brackets.
+/// Returns the index of the item after that of `last`, or 0 if `last` isn't a step to an item of a sequence
+/// without brackets.
 fn next_index(last: Option<StepAt>) -> Result<usize, AllocError>
     ensures { IfOk result (λ index. index ≡ next_index last) }
 {
@@ -143,7 +144,8 @@ impl Trail {
         let _ = self.steps.pop();
     }
 
-    /// Changes the path after a value: in a sequence in brackets, to the next item.
+    /// Moves the path on after a value: in a sequence in brackets, to the next item. Elsewhere the path is
+    /// unchanged.
     fn go_on(&mut self) -> Result<(), AllocError>
         ensures { IfOk result (λ _. trail_of self.new ≡ went_on (trail_of self.old)) }
     {

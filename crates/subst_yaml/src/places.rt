@@ -21,8 +21,9 @@ mod spelling;
 /// A byte that no text contains, since UTF-8 doesn't have it.
 const SENTINEL: u8 = 255;
 
-/// A finder of the byte ranges in one text that spell parts of its strings, each as by [`places_in`]. The
-/// text is read once. Strings are found fastest in the order of the text.
+/// A finder of the byte ranges in one text that spell parts of its strings. The ranges are those of
+/// [`places_in`], but the text is read only once. Searches are fastest in the order of the strings in the
+/// text.
 #[derive(Drop)]
 pub struct RangeFinder {
     events: Vec<Event>,
@@ -49,8 +50,8 @@ impl RangeFinder {
         }
     }
 
-    /// Returns the byte ranges in `source` that spell these ranges of one of its strings, as [`places_in`].
-    /// The finder has to be created for the same `source`.
+    /// Returns the byte ranges in `source` that spell these ranges of one of its strings, as [`places_in`]
+    /// does. The finder has to be created for the same `source`.
     ///
     /// # Errors
     ///
@@ -87,7 +88,7 @@ impl RangeFinder {
         }
     }
 
-    /// Returns the byte range in `source` that spells a range of one of its strings, as [`place_in`].
+    /// Returns the byte range in `source` that spells a range of one of its strings, as [`place_in`] does.
     ///
     /// # Errors
     ///
@@ -112,7 +113,8 @@ impl RangeFinder {
         }
     }
 
-    /// Returns the style and indentation of the value whose token is at a range, or `None` if no value is.
+    /// Returns the style and indentation of the value whose token is at a range, or `None` if there is no
+    /// such value.
     fn scalar_at(&mut self, token: &Range<usize>) -> Option<Scalar>
         ensures value { (s : List ℕ) → IsFinderOf self.old s → IfSome result
             (λ scalar. (in_flow : Bool)
@@ -125,8 +127,8 @@ impl RangeFinder {
     }
 }
 
-/// Returns the value whose token is at a range, and the index of its event, or `None` if no value is there.
-/// The search begins at the index `from`, and is repeated from the first event.
+/// Returns the value whose token is at a range, and the index of its event, or `None` if there is no such
+/// value. The search begins at the index `from`. If it finds nothing, it is repeated from the first event.
 fn find_scalar(events: &[Event], from: usize, token: &Range<usize>) -> Option<(usize, Scalar)>
     ensures { IfSome result (λ found. (in_flow : Bool)
         × Contains events.now (value_at token.now found.1.style in_flow found.1.indent)) }
@@ -385,7 +387,7 @@ pub fn place_in(
 /// Returns the byte ranges in `source`, a text of YAML, that spell these ranges of one of its strings.
 ///
 /// `token` is the byte range in `source` of the string's token with its quotes. `ranges` are in byte offsets
-/// of the string, in order and without overlaps. For each range the result is as by [`place_in`], but the
+/// of the string, in order and without overlaps. For each range the result is that of [`place_in`], but the
 /// token is read only once. The result is `None` if [`place_in`] returns `None` for a range, or if ranges
 /// overlap. For several strings of a text, use a [`RangeFinder`], which reads the text once.
 ///

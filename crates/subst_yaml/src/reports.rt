@@ -25,7 +25,8 @@ use subst_yaml_reader::Span;
 /// If a string is refused, every refused string is reported, in the order of the text. The report of each is
 /// a line `FILE:LINE:COLUMN: PATH: fault`, and the underlined line of the text if `error::underline` of
 /// `subst` returns one. If the reader refuses the text, its message is reported in the same form, without a
-/// path. A fault whose place isn't confirmed is `FILE: PATH: fault`; no text is known for which that happens.
+/// path. If the place of a fault isn't confirmed, the fault is reported as `FILE: PATH: fault`; no text is
+/// known for which that happens.
 ///
 /// ```text
 /// web.yaml:1:8: user: ..

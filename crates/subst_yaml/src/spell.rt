@@ -1,4 +1,5 @@
-//! Spells values as tokens. No contract states how: the output is read again, and compared.
+//! Spells values as tokens. No contract states how. Instead, the output is read again and compared with the
+//! source.
 
 use crate::token::{header_rest, line_of};
 use std::alloc::AllocError;
@@ -113,7 +114,7 @@ pub(crate) fn fits_plain(value: &str, in_flow: bool) -> bool {
     !in_flow || !value.contains(":?") && !bytes.iter().any(|byte| is_bracket(*byte))
 }
 
-/// Returns the sign, `+` or `-`, in the header of a token after `|` or `>`, or `None` if there is none.
+/// Returns the sign, `+` or `-`, in the header of a block scalar's token, or `None` if the header has none.
 fn sign_of(token: &[u8]) -> Option<u8> {
     match token {
         [_, sign, ..] if *sign == b'+' || *sign == b'-' => Some(*sign),
@@ -135,7 +136,8 @@ fn lines_of<'v>(value: &'v str, token: &[u8]) -> Option<&'v str> {
     }
 }
 
-/// Returns whether lines can be written after `|`, by their characters and their first and last line.
+/// Returns whether lines can be written after `|`, as far as their characters and their first and last line
+/// decide that.
 fn are_lines(lines: &str) -> bool {
     let begins_with_text = match lines.as_bytes() {
         [] => false,

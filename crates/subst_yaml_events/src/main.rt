@@ -1,7 +1,8 @@
 //! Prints the events of documents of YAML: `subst_yaml_events FILE..`.
 //!
 //! A file has documents, each after a line with its length in bytes. Each event of a document is printed on a
-//! line, and then `end`. For a refused document, one line is printed: the span, the line and the reason.
+//! line, and then `end`. For a refused document, one line is printed, with the span, the line number and the
+//! reason.
 #![tactic(auto)]
 
 use shown::shown;

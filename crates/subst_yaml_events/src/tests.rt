@@ -11,9 +11,18 @@ trait Testing: Abort + AllocGlobal {}
 
 impl<R: Abort + AllocGlobal> Testing for R {}
 
-/// A text, and its events: `doc`; `i` and `k` of items and keys, outside brackets with their depths; `v` of
-/// values, and `f` of those in brackets; `[`, `{`, `(` and `)` of brackets and pairs; `~` of missing values.
-/// Then come the mark of a token's style, and its span.
+/// A text, and its events with spaces between them:
+///
+/// - `doc`: a document
+/// - `i`: an item, with its depth
+/// - `k`: a key, outside brackets with its depth
+/// - `v`: a value, or in brackets `f`
+/// - `[`, `{` and `(`: the start of a sequence, a mapping or a pair in brackets
+/// - `)`: the end of any of these
+/// - `~`: a missing value
+///
+/// A key or a value is followed by the mark of its style and by its span. After the span of a block scalar
+/// come `/` and its indentation.
 type Row<'t> = (&'t str, &'t str);
 
 /// Sequences and mappings without brackets.
@@ -417,7 +426,7 @@ fn sketch(alloc: Global, event: &Event) -> Result<String, AllocError> {
     }
 }
 
-/// Checks that the events of a text are these of a row.
+/// Checks that the events of a text are those of a row.
 fn expect(rt: &impl Testing, source: &str, want: &str) -> Result<(), Fail> {
     let events = read(rt.alloc(), source)?;
     let mut sketches = String::new(rt.alloc());

@@ -66,7 +66,8 @@ pub(crate) fn next_case(alloc: Global, text: &str) -> Result<Option<Case<'_>>, A
     Ok(Some(Case { case, rest }))
 }
 
-/// Returns the length, the syntax and the count of variables before a document, or `None` for another line.
+/// Reads the line before a document and its variables: the document's length, the syntax of its variables,
+/// and their number. The result is `None` for any other line.
 fn head_of(line: &str) -> Option<(usize, Written, usize)> {
     let (len, rest) = line.split_once(' ')?;
     let (written, count) = rest.split_once(' ')?;
@@ -104,7 +105,7 @@ fn plain(alloc: Global, value: &str) -> Result<String, AllocError> {
     String::from_utf8(bytes).map_err(|_| AllocError)
 }
 
-/// Returns the value of a hexadecimal digit, whose letters are capital ones.
+/// Returns the value of a hexadecimal digit. A letter has to be a capital.
 fn digit(byte: u8) -> u8 {
     if byte >= b'A' && byte <= b'F' {
         byte - b'A' + 10

@@ -1,8 +1,9 @@
 //! Prints texts of YAML with their values filled in: `subst_yaml_filled FILE..`.
 //!
-//! A file has documents. Each document follows a line and its variables. The line has the document's length
-//! in bytes, the syntax of its variables, `all`, `own`, `envsubst` or `shell`, and the number of variables.
-//! Each variable has a line with its name and, if it is set, `=` and its value, in which `%XX` is a byte.
+//! A file has documents. Before each document come a line about it and a line for each of its variables. The
+//! first line has the document's length in bytes, the syntax of its variables, and their number. The syntax
+//! is `all`, `own`, `envsubst`, `shell` or `paths`. The line of a variable has its name and, if it is set,
+//! `=` and its value, in which `%XX` is a byte.
 //!
 //! For each document a line with the kind and the length of its output is printed, and then the output. The
 //! syntax `paths` is that of `all`, but the output has the paths to the refused strings.

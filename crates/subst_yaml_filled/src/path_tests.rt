@@ -11,7 +11,8 @@ trait Testing: Abort + AllocGlobal {}
 
 impl<R: Abort + AllocGlobal> Testing for R {}
 
-/// Texts with unset variables, and the path and the token of each refused string, or `yaml` if not read.
+/// Texts with unset variables, and the path and the token of each refused string, or `yaml` if the reader
+/// refuses the text.
 const REFUSED: [(&'static str, &'static str); 30] = [
     ("$X", "=$X"),
     ("a: $X", "a=$X"),

@@ -6,7 +6,8 @@ use std::alloc::{AllocError, Global};
 use subst_foreign::{Forms, OnlyNames};
 use subst_yaml::{Error, fill_in, fill_in_by, refusals_in};
 
-/// Returns a line with the kind and the length of a document's output or error, and then this text.
+/// Returns a document's output or the text of its error, preceded by a line with the kind and the length of
+/// this text.
 pub(crate) fn shown(alloc: Global, document: &Document<'_>) -> Result<String, AllocError> {
     let filled = match document.written {
         Written::All => fill_in(alloc, document.text, &document.values),
@@ -29,7 +30,8 @@ fn failed(alloc: Global, error: Error) -> Result<String, AllocError> {
     }
 }
 
-/// Returns the refused strings of a document: for each a line with the start of its token and its path.
+/// Returns the refused strings of a document: for each a line with the offset of its token and the path to
+/// it.
 fn shown_paths(alloc: Global, document: &Document<'_>) -> Result<String, AllocError> {
     let all = match refusals_in(alloc, document.text, &document.values) {
         Ok(all) => all,
@@ -60,7 +62,7 @@ fn filled_by_names(
     fill_in_by(alloc, document.text, &chosen)
 }
 
-/// Returns a text after a line with a kind and the text's length in bytes.
+/// Returns a text, preceded by a line with a kind and the text's length in bytes.
 fn block(alloc: Global, kind: &str, text: &str) -> Result<String, AllocError> {
     let len = text.len();
     format!(in alloc; "{kind} {len}\n{text}\n")

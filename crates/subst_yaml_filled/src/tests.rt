@@ -105,7 +105,7 @@ const LINES: [Row<'static>; 17] = [
     ),
 ];
 
-/// Values over lines without quotes and in quotes.
+/// Values over several lines, without quotes and in quotes.
 const OVER_LINES: [Row<'static>; 29] = [
     ("a: $X b\n   c", "x", "a: x b\n   c"),
     ("a: b\n\n  # c $X\n", "x", "a: b\n\n  # c $X\n"),

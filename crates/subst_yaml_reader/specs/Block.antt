@@ -69,7 +69,8 @@ open_bracket properties b s rest = do
   after_token rest (with_next next.Member (opened (bracket_of b) s))
 
 -- The column of a block scalar's lines: `column`, where its collection is, plus the header's `digit`. If
--- `digit` is 0, it is `spaces`, the number of spaces before the first line, but at least `column` + 1.
+-- `digit` is 0, the lines are at `spaces`, the number of spaces before the first line, but at least at
+-- `column` + 1.
 abbrev pub block_indent : (column digit spaces : ℕ) → ℕ
 block_indent column digit spaces =
     if nat_lt 0 digit then min (column + digit) (2 ^ 64 - 1) else max (min (column + 1) (2 ^ 64 - 1)) spaces
@@ -78,9 +79,9 @@ block_indent column digit spaces =
 abbrev pub spaces_of : List ℕ → ℕ
 spaces_of text = length text - length (after_spaces text)
 
--- Whether a block scalar is refused because the column of its lines is unclear. That is so if the line at
--- the start of `first` has only spaces, one or more. It is also so if the header's `digit` is 0 and a tab
--- follows the spaces at that start, if any.
+-- Whether a block scalar is refused because the column of its lines is unclear. That is so if the line at the
+-- start of `first` has only spaces, one or more. It is also so if the header's `digit` is 0 and the first
+-- byte of `first` that isn't a space is a tab.
 abbrev pub is_unclear : (digit : ℕ) → List ℕ → Bool
 is_unclear digit first = (nat_lt 0 (spaces_of first) && is_line_over (after_spaces first))
     || (digit == 0 && begins tab (after_spaces first))
@@ -97,8 +98,9 @@ lines_from column digit keep head first = if is_unclear digit first then None el
   block_end (block_indent column digit (spaces_of first)) keep head first,
 )
 
--- The column of a block scalar's lines, and the text after the lines, in a collection at `column`. The tuple
--- is the scalar's header: a digit or 0, whether the sign is `+`, and the text from the line end on.
+-- The column of a block scalar's lines, and the text after the lines. The scalar is in a collection at
+-- `column`. The tuple is the scalar's header: a digit or 0, whether the sign is `+`, and the text from the
+-- line end on.
 unfoldable pub block_lines : (column : ℕ) → ℕ × Bool × List ℕ → Option (ℕ × List ℕ)
 block_lines column (digit, keep, head) = lines_from column digit keep head (after_line_ends head)
 
@@ -132,8 +134,8 @@ key role style s text rest = do
   t ← opened_for role s
   after_token (after_byte colon (after_blanks rest)) (keyed_block style (span_of t text rest) t)
 
--- The text after a value. `rest` begins after the value, or after the first line of an unquoted one. Its
--- other lines are past the column of the innermost collection.
+-- The text after a value. `rest` begins after the value, or after the first line of an unquoted one. The
+-- other lines of an unquoted value are past the column of the innermost collection.
 abbrev pub value_end : State → Style → (rest : List ℕ) → List ℕ
 value_end s style rest = if is_plain style then after_plain_lines (length rest + 1) (outer_column s) rest else rest
 
@@ -191,8 +193,8 @@ abbrev pub is_mapping_at : (column : ℕ) → Option Collection → Bool
 is_mapping_at column None = false
 is_mapping_at column (Some block) = not (is_sequence block.kind) && block.column == column
 
--- a turn at an entry of the innermost collection, or `None` if that isn't at `column`; `is_item` is whether
--- the entry begins with `- `
+-- a turn at an entry of the innermost collection, or `None` if that collection is at another column or of
+-- another kind; `is_item` is whether the entry begins with `- `
 unfoldable pub entry : (column : ℕ) → (is_item : Bool) → State → List ℕ → Turn
 entry column is_item s text =
     if is_item && is_sequence_at column (innermost s.blocks) then item s text
@@ -225,8 +227,8 @@ abbrev pub is_value : Next → Bool
 is_value next.Value = true
 is_value _ = false
 
--- A value may begin at `column`: a value is expected, and `column` is past the innermost collection's. If
--- `is_item`, the column may also be that of the key whose value the items are.
+-- A value may begin at `column`: a value is expected, and `column` is past the innermost collection's. An
+-- item may also begin at the innermost collection's own column, if that collection is a mapping.
 abbrev pub may_open : (column : ℕ) → (is_item : Bool) → State → Bool
 may_open column is_item s = is_value s.next
     && (is_past (outer_column s) column || (is_item && is_mapping_at column (innermost s.blocks)))

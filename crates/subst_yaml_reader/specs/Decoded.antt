@@ -49,7 +49,7 @@ escaped b =
     else b
 
 -- The piece that the byte b in double quotes decodes to, in this state of an escape. The last byte of an
--- escape decodes to its character or to its line end, and those before to nothing.
+-- escape decodes to the escape's character or line end, and each byte before it to nothing.
 abbrev pub piece_after : Escape → ℕ → Piece
 piece_after Nothing b = if b == backslash then piece.Nothing else piece_of b
 piece_after Escaped b =
@@ -71,8 +71,8 @@ double held (b ∷ rest) =
           [ None ↦ None | Some next ↦ option_map (λ more. piece_after held b ∷ more) (double next rest) ]
     ]
 
--- The lines of a block scalar without `indent` bytes of indentation each. Their ends are line feeds. Of the
--- first line `column` bytes were skipped, or its text has begun if `in_text`.
+-- The lines of a block scalar, each without its indentation of `indent` bytes. Each line end becomes a line
+-- feed. If `in_text`, the text of the first line has begun; otherwise `column` of its bytes were skipped.
 unfoldable pub lines_of : (indent : ℕ) → (in_text : Bool) → (column : ℕ) → List ℕ → List ℕ
 lines_of indent in_text column [] = []
 lines_of indent in_text column (b ∷ rest) =
@@ -107,7 +107,8 @@ lines_after indent text (digit, keep, head) =
 unfoldable pub literal_value : (indent : ℕ) → List ℕ → Option (List ℕ)
 literal_value indent text = option_map (lines_after indent text) (header text)
 
--- the value of a token in quotes or of a block scalar, from its second byte on; `None` for other tokens
+-- the value of a token in quotes or of a block scalar; `None` for other styles. `rest` is the token without
+-- its first byte
 abbrev pub value_after : Style → (indent : ℕ) → List ℕ → Option (List ℕ)
 value_after style.Single indent rest = option_map (folded []) (single false rest)
 value_after style.Double indent rest = option_map (folded []) (double Nothing rest)

@@ -40,8 +40,8 @@ is_done _ = false
 abbrev pub is_key_due : State → Bool
 is_key_due s = is_member s.next && is_in Mapping s
 
--- A node in brackets may be a key: it has at most 1,024 bytes and no line feed from its anchor or tag, at
--- `text`, to `rest`. No anchor or tag is pending, and an alias has none.
+-- A node in brackets may be a key. From its anchor or tag at `text` to `rest`, it has at most 1,024 bytes and
+-- no line feed. No anchor or tag is pending, and an alias has none.
 abbrev pub is_flow_key : Properties → Style → State → (text rest : List ℕ) → Bool
 is_flow_key properties style s text rest =
     fits_key text rest && not (has_any s.pending) && not (is_alias style && has_any properties)
@@ -49,12 +49,14 @@ is_flow_key properties style s text rest =
 abbrev pub keyed : Style → Span → State → State
 keyed style span s = with_next next.Value (emit (FlowKey style span) s)
 
--- a turn at the colon after a key, if `rest` begins at the colon; in a sequence, a pair begins with the key
+-- A turn at the colon after a key. `rest` is the text from the colon on. In a sequence, a pair begins with
+-- the key
 unfoldable pub flow_key : Style → Span → State → (rest : List ℕ) → Turn
 flow_key style span s rest = if not (is_member s.next) then None
     else after_token (after_byte colon rest) (keyed style span (if is_in Mapping s then s else opened Pair s))
 
--- a turn at a key without a colon in a mapping in brackets, whose value is null; `rest` follows the key
+-- A turn at a key without a colon in a mapping in brackets. The key's value is null. `rest` is the text after
+-- the key
 unfoldable pub lone_key : Style → Span → State → (rest : List ℕ) → Turn
 lone_key style span s rest = after_token rest (with_next next.Done (emit Null (keyed style span s)))
 
@@ -119,8 +121,8 @@ next_entry s rest = do
   t ← ended s
   after_token rest (with_next next.Member t)
 
--- the state before a closing bracket, after the last entry, or `None` if it can't end here; an entry may be
--- missing after the opening bracket or the last comma
+-- the state before a closing bracket, where the last entry ends, or `None` if that entry can't end here.
+-- After the opening bracket or the last comma, the entry may be missing
 unfoldable pub closing : State → Option State
 closing s = if is_member s.next && not (has_any s.pending) then Some s else ended s
 

@@ -1,5 +1,4 @@
--- Events as a tree in the order of the text: the collections that are open after some events, and the events
--- that may follow.
+-- The nesting of events: the collections that are open after some events, and the events that may follow.
 use Rattle.std.specs.Prelude.{◌≡◌, ℕ, ◌==◌, ◌+◌, ◌-◌, ◌&&◌, ◌||◌, Bool, false, true, not, List, [], ◌∷◌, ◌++◌, take, length, if◌then◌else◌, Option, Some, None, nat_lt}
 use Rattle.subst_yaml_reader.specs.Block.{is_sequence}
 use Rattle.subst_yaml_reader.specs.Flow.{is_of}
@@ -35,9 +34,9 @@ is_kind Mapping (Some other) = not (is_sequence other)
 abbrev pub goes_on : Kind → (depth : ℕ) → List Kind → Bool
 goes_on kind depth blocks = not (nat_lt (length blocks) depth) && is_kind kind (innermost (take depth blocks))
 
--- The open collections after an entry outside brackets, or `None` if the entry can't come next. It belongs to
--- the open collection of this kind at `depth`, or to a new collection: a value that is due, one deeper than
--- all open collections.
+-- The open collections after an entry outside brackets, or `None` if the entry can't come next. The entry
+-- continues the open collection of this kind at `depth`, or begins a new one. A new collection has to be due
+-- as a value, and one deeper than all open collections.
 abbrev pub entered : Kind → (depth : ℕ) → Nest → Option Nest
 entered kind depth n =
     if not (has_none n.brackets) then None
@@ -47,8 +46,8 @@ entered kind depth n =
     then Some (record { blocks = n.blocks ++ kind ∷ []; brackets = []; is_due = true })
     else None
 
--- the open collections after a value, or `None` if the value can't come next: it is in brackets if `in_flow`,
--- and otherwise due
+-- the open collections after a value, or `None` if the value can't come next. If `in_flow`, the value has to
+-- be in brackets; otherwise it has to be outside them, and due
 abbrev pub valued : (in_flow : Bool) → Nest → Option Nest
 valued true n = if has_none n.brackets then None else Some n
 valued false n = if has_none n.brackets && n.is_due then Some (record n { is_due = false }) else None

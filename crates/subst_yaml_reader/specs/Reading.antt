@@ -13,7 +13,7 @@ use Rattle.subst_yaml_reader.specs.declared.event.Event.{Event}
 unfoldable pub turn : State → List ℕ → Turn
 turn s text = elim (innermost s.brackets) [ None ↦ block_turn s text | Some bracket ↦ flow_turn s text ]
 
--- the events at the end of the text: none, or `None` if a bracket isn't closed
+-- the events at the end of the text: the empty list, or `None` if a bracket isn't closed
 unfoldable pub finish : State → Option (List Event)
 finish s = elim (innermost s.brackets) [ None ↦ Some [] | Some bracket ↦ None ]
 
@@ -33,7 +33,8 @@ after_version text =
     if starts_with (λ b c. b == c) text (codes "%YAML 1.1") || starts_with (λ b c. b == c) text (codes "%YAML 1.2")
     then Some (drop 9 text) else None
 
--- the text from its first line end on, if the line is `%YAML 1.1` or `%YAML 1.2`, and maybe a comment
+-- the text from its first line end on, or `None` if the first line isn't `%YAML 1.1` or `%YAML 1.2`,
+-- optionally with a comment
 abbrev pub directive_end : List ℕ → Option (List ℕ)
 directive_end text = do
   rest ← after_version text
@@ -48,9 +49,9 @@ abbrev pub begun : (directive next : ℕ × List ℕ) → ℕ × List ℕ
 begun directive next =
     if is_at_line directive && is_at_line next && is_mark_of_three hyphen next.1 then next else directive
 
--- The token `---` after a directive `%YAML 1.1` or `%YAML 1.2`, comments and empty lines, or the argument if
--- one of them is missing. A token is the length of the text from the start of its line on, and the text from
--- the token on.
+-- The token `---` after a directive `%YAML 1.1` or `%YAML 1.2`, with only comments and empty lines between
+-- them. If the directive or the `---` is missing, the result is the argument. A token is a pair: the length
+-- of the text from the start of the token's line on, and the text from the token on.
 unfoldable pub after_directive : ℕ × List ℕ → ℕ × List ℕ
 after_directive (line, text) = elim (directive_end text) [
   | None ↦ (line, text)
@@ -62,7 +63,7 @@ after_directive (line, text) = elim (directive_end text) [
 abbrev pub events_at : (size : ℕ) → ℕ × List ℕ → Option (List Event)
 events_at size (line, text) = events_from (size + 1) (initial size line) text
 
--- the events of a text, whose first token is after comments, empty lines and a directive
+-- the events of a text, which may begin with comments, empty lines and a directive
 unfoldable pub events_of : List ℕ → Option (List Event)
 events_of text = events_at (length text) (after_directive (after_lines true false (length text) text))
 

@@ -1,5 +1,5 @@
--- The ends of tokens. A text is the list of the bytes that are left, and most definitions are the text after
--- a token at its start.
+-- The ends of tokens. A text is the list of the bytes that are left. Most definitions map a text that begins
+-- with a token to the text after the token.
 use Rattle.std.specs.Prelude.{ℕ, zero, suc, length, ◌==◌, ◌+◌, ◌-◌, ◌*◌, ◌&&◌, ◌||◌, Bool, false, true, not, List, [], ◌∷◌, if◌then◌else◌, Option, Some, None, nat_lt}
 use Rattle.subst_yaml_reader.specs.Bytes.{begins, is_blank, is_bracket, is_document_mark, is_foreign, is_line_end, is_line_over, is_name_byte, line_feed, carriage_return, space, double_quote, hash, single_quote, slash, colon, question_mark, backslash}
 use Rattle.subst_yaml_reader.specs.declared.runs.Escape.{Escape}
@@ -51,10 +51,10 @@ line_part comments in_comment b =
     else if comments && b == hash then Opens
     else Stops
 
--- The next token of a text that begins in the indentation of a line: the length of the text from the start of
--- the token's line on, and the text from the token on. Empty lines are skipped, and comments if `comments`.
--- `line` is the length from the start of the first line on, and `in_comment` is whether the text begins in a
--- comment.
+-- The next token of a text that begins in the indentation of a line. The result is the length of the text
+-- from the start of the token's line on, and the text from the token on. Empty lines are skipped, and so are
+-- comments if `comments`. `line` is the length of the text from the start of its first line on, and
+-- `in_comment` is whether the text begins in a comment.
 unfoldable pub after_lines : (comments in_comment : Bool) → (line : ℕ) → List ℕ → ℕ × List ℕ
 after_lines comments in_comment line [] = (line, [])
 after_lines comments in_comment line (b ∷ rest) =
@@ -89,8 +89,9 @@ after_plain in_flow end (b ∷ rest) =
 abbrev pub breaks : ℕ → (rest : List ℕ) → Bool
 breaks b rest = b == line_feed && is_document_mark rest
 
--- The text after the closing single quote, if the argument begins between the quotes, or `None` if they
--- aren't closed. `quoted` is whether the byte before is a quote, which closes unless another quote follows.
+-- The text after the closing single quote of a text that begins between the quotes, or `None` if they aren't
+-- closed. `quoted` is whether the byte before the text is a quote, which closes them unless another quote
+-- follows.
 unfoldable pub after_single : (quoted : Bool) → List ℕ → Option (List ℕ)
 after_single quoted [] = if quoted then Some [] else None
 after_single quoted (b ∷ rest) =
@@ -122,8 +123,8 @@ hex_value b =
 abbrev pub is_surrogate : ℕ → Bool
 is_surrogate n = not (nat_lt n 55296) && nat_lt n 57344
 
--- the state of an escape after `digit`, the next of `left` missing digits, if those before have the value
--- `value`; `None` if `digit` is over 15, or if the number can't be a character
+-- the state of an escape after `digit`, the next of `left` missing digits. `value` is the value of the digits
+-- before it. The state is `None` if `digit` is over 15, or if the number can't be a character
 abbrev pub with_digit : (left value : ℕ) → (digit : ℕ) → Option Escape
 with_digit left value digit =
     if not (nat_lt digit 16) || not (nat_lt value 69632) then None
@@ -183,9 +184,10 @@ after_plain_lines (suc n) outer text =
     elim (next_line outer (after_blanks text))
     [ None ↦ text | Some line ↦ after_plain_lines n outer (after_plain false line line) ]
 
--- The text after the lines of a block scalar, before which are `indent` spaces each. Of the current line
--- `column` spaces were skipped, or its text has begun if `in_text`. `end` is the text after the last line
--- with text, or after the last line if `keep`: then empty lines at the end belong to the scalar.
+-- The text after the lines of a block scalar, each indented by `indent` spaces. If `in_text`, the text of the
+-- current line has begun; otherwise `column` of its spaces were skipped. `end` is the text after the last
+-- line so far that has text. If `keep`, empty lines at the end belong to the scalar, and `end` is the text
+-- after the last line so far.
 unfoldable pub after_block : (indent : ℕ) → (keep in_text : Bool) → (column : ℕ) → (end : List ℕ) → List ℕ → List ℕ
 after_block indent keep in_text column end [] = if in_text || keep then [] else end
 after_block indent keep in_text column end (b ∷ rest) =

@@ -26,8 +26,8 @@ after_byte b (first ∷ rest) = if first == b then rest else first ∷ rest
 abbrev pub first_of : ℕ × List ℕ → Spot
 first_of (line, text) = (true, line, text)
 
--- The position of the next token, after blanks, comments and line ends. A comment follows a blank. `line` is
--- the length of the text from the start of the first line on.
+-- The position of the next token, after blanks, comments and line ends. On the first line, a comment has to
+-- follow a blank. `line` is the length of the text from the start of the first line on.
 unfoldable pub after_gap : (line : ℕ) → List ℕ → Spot
 after_gap line text =
     if is_line_over (after_blanks text) || (begins hash (after_blanks text) && not (begins hash text))
@@ -40,7 +40,8 @@ abbrev pub is_name_over : (in_flow in_tag : Bool) → List ℕ → Bool
 is_name_over in_flow in_tag text = is_apart text
     || (in_flow && not in_tag && (begins comma text || begins closing_square text || begins closing_curly text))
 
--- the text after the name at its start, or `None` if no name can begin or end there
+-- the text after the name at its start; `None` if the text begins with no name, or if the byte after the name
+-- can't follow one
 unfoldable pub name_end : (in_flow in_tag : Bool) → List ℕ → Option (List ℕ)
 name_end in_flow in_tag text =
     if nat_lt (length (after_name in_tag text)) (length text)
@@ -97,8 +98,8 @@ begins_plain in_flow b rest =
     else if b == question_mark || b == colon then not in_flow && not (is_apart rest)
     else not (is_indicator b || is_blank b || is_line_end b)
 
--- the scalar or the alias at the start of the text: its style, and the text after it, or after the first line
--- of unquoted text
+-- the scalar or the alias at the start of the text: its style, and the text after it. Of unquoted text, only
+-- the first line is read
 unfoldable pub scalar : (in_flow : Bool) → List ℕ → Option (Style × List ℕ)
 scalar in_flow [] = None
 scalar in_flow (b ∷ rest) =
@@ -123,7 +124,8 @@ unfoldable pub fits_key : (text rest : List ℕ) → Bool
 fits_key text rest = not (nat_lt 1024 (length text - length rest))
     && not (list_any (λ b. b == line_feed) (take (length text - length rest) text))
 
--- the digit, 1 to 9, at the start of a text, and the text after it, or 0 and the text
+-- the digit, 1 to 9, at the start of a text, and the text after the digit. Without such a digit, the result
+-- is 0 and the whole text
 abbrev pub digit_at : List ℕ → ℕ × List ℕ
 digit_at [] = (0, [])
 digit_at (b ∷ rest) = if not (nat_lt b 49) && nat_lt b 58 then (b - 48, rest) else (0, b ∷ rest)

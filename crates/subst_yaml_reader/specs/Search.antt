@@ -1,4 +1,4 @@
--- Bytes that searches skip, whatever follows them.
+-- Searches: the bytes at which they stop, and the bytes that they skip, whatever follows.
 use Rattle.std.specs.Prelude.{ℕ, ◌==◌, ◌&&◌, ◌||◌, Bool, true, false, not, List, [], ◌∷◌, if◌then◌else◌, nat_lt}
 use Rattle.std.specs.Int.{w64, trailing_zeros}
 use Rattle.std.specs.List.{prefix_len}

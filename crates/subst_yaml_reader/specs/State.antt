@@ -20,7 +20,7 @@ pub record State : Type 0 where
   pub fresh : Bool
   -- the tokens that are expected next
   pub next : Next
-  -- whether the next value has an anchor, and whether a tag, that an earlier turn read
+  -- whether an earlier turn read an anchor for the next value, and whether an earlier turn read a tag for it
   pub pending : Properties
   -- the open collections without brackets, the innermost last
   pub blocks : List Collection

@@ -5,8 +5,8 @@ use Rattle.subst_yaml_reader.specs.Bytes.{begins, is_blank, line_feed, space, ba
 use Rattle.subst_yaml_reader.specs.declared.folded.Piece.{Piece}
 use Rattle.subst_yaml_reader.specs.declared.folded.Piece.TheVariants as piece
 
--- folded white space, whose line feeds are `ends`: `white` if there are none, a space for one, and all but
--- the first of several
+-- folded white space. `ends` are its line feeds. Without line feeds, the result is `white`; with one, a
+-- space; with several, all of them but the first
 abbrev pub joined : (white : List ℕ) → (ends : List ℕ) → List ℕ
 joined white [] = white
 joined white (end ∷ []) = space ∷ []
@@ -27,8 +27,8 @@ added white (piece.EscapedEnd b) = gap white
 added white (piece.Byte b) = gap white ++ b ∷ []
 added white (piece.Character c) = gap white ++ encode_utf8 c
 
--- the white space that isn't folded yet after a piece, if `white` is before it; it begins with a backslash if
--- its line end is escaped
+-- the white space that isn't folded yet after a piece. `white` is the white space before the piece. The
+-- result begins with a backslash if its line end is escaped
 abbrev pub white_after : (white : List ℕ) → Piece → List ℕ
 white_after white piece.Nothing = white
 white_after white (piece.White b) = white ++ b ∷ []
@@ -40,17 +40,17 @@ unfoldable pub folded : (white : List ℕ) → List Piece → List ℕ
 folded white [] = gap white
 folded white (g ∷ more) = added white g ++ folded (white_after white g) more
 
--- The line feeds between two lines in the style `>`, folded: `ends` are joined if neither line begins with a
--- blank. `before` and `is_indented` are whether the first and the second line begin with one. `before` is
--- `None` at the first line of all, and then the header's line feed is removed.
+-- The line feeds `ends` between two lines in the style `>`, folded. They are joined if neither line begins
+-- with a blank. `before` is whether the first of the lines begins with a blank, and `is_indented` is whether
+-- the second does. At the scalar's first line, `before` is `None`, and the header's line feed is removed.
 abbrev pub between : (before : Option Bool) → (is_indented : Bool) → (ends : List ℕ) → List ℕ
 between None is_indented ends = drop 1 ends
 between (Some true) is_indented ends = ends
 between (Some false) true ends = ends
 between (Some false) false ends = joined [] ends
 
--- whether the line of the byte b begins with a blank; `before` is the result for the byte before, which stays
--- if no line feeds, `ends`, are between both bytes
+-- whether the line of the byte b begins with a blank. `before` is the result for the byte before b, and
+-- `ends` are the line feeds between both bytes. Without line feeds, the result stays `before`
 abbrev pub indented : (before : Option Bool) → (ends : List ℕ) → ℕ → Option Bool
 indented before [] b = before
 indented before (end ∷ ends) b = Some (is_blank b)

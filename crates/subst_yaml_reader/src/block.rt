@@ -224,7 +224,8 @@ impl Reader {
         }
     }
 
-    /// Closes collections with entries past this column, and unless `is_item`, a sequence at this column.
+    /// Closes collections with entries past this column. Unless `is_item`, also closes a sequence at this
+    /// column.
     #[tactic(auto, unfolding(crate::specs::Block::shallower))]
     fn close_deeper(&mut self, column: usize, is_item: bool)
         ensures { state_of self.new ≡ shallower column is_item (state_of self.old) }

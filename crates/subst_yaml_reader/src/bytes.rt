@@ -22,7 +22,8 @@ pub(crate) fn is_blank(byte: u8) -> bool
     byte == b' ' || byte == b'\t'
 }
 
-/// Returns whether a byte is a line feed, or a carriage return, which precedes one.
+/// Returns whether a byte is a line feed or a carriage return. In a text that every reader accepts, a line
+/// feed follows each carriage return.
 pub(crate) fn is_line_end(byte: u8) -> bool
     ensures { result ≡ is_line_end byte }
 {

@@ -12,9 +12,9 @@ use crate::runs::{Escape, closes, digits_after, escape_after, hex_value};
 use crate::scalar::{after_byte, digit_at, header};
 use std::alloc::{AllocError, Global};
 
-/// Returns the text of a scalar as bytes, or `None` for an alias or if the token isn't one of this style.
-/// Lines are folded by YAML's rules, except in the style `|`. `indent` is the number of spaces before each
-/// line of a value after `|` or `>`.
+/// Returns the text of a scalar as bytes. The result is `None` for an alias, or if the token can't be decoded
+/// in this style. Lines are folded by YAML's rules, except in the style `|`. `indent` is the number of spaces
+/// before each line of a value after `|` or `>`.
 ///
 /// ```rust
 /// let value = value_of(alloc, Style::Single, 0, b"'it''s'")?;
@@ -82,7 +82,8 @@ fn plain_value(alloc: Global, token: &[u8]) -> Result<Vec<u8>, AllocError>
     }
 }
 
-/// Returns unquoted text as its value if it has no line feed, and otherwise `None`.
+/// Returns the value of unquoted text on one line: the text itself. Returns `None` if the text has a line
+/// feed.
 fn plain_part(token: &[u8]) -> Option<&[u8]>
     ensures { IfSome result (λ value. folded [] (map piece_of token.now) ≡ value.now) }
 {
@@ -135,7 +136,8 @@ fn value_after(
     }
 }
 
-/// Returns the piece that a byte in single quotes decodes to, or `None` if the quotes are closed before it.
+/// Returns the piece that a byte in single quotes decodes to, or `None` if the quotes are closed before the
+/// byte. `is_quoted` is whether the byte before it is a quote that closes them unless another quote follows.
 fn single_step(is_quoted: bool, byte: u8) -> Option<Piece>
     ensures { result ≡ single_step is_quoted byte }
 {
@@ -199,7 +201,8 @@ fn escaped(byte: u8) -> char
     }
 }
 
-/// Returns the piece that a byte in double quotes decodes to, in the state `held` of an escape.
+/// Returns the piece that a byte in double quotes decodes to. `held` is the state of an escape before the
+/// byte.
 fn piece_after(held: Escape, byte: u8) -> Piece
     requires { IsSome (double_step held byte) }
     ensures { result ≡ piece_after held byte }
@@ -248,7 +251,8 @@ fn double_value(alloc: Global, text: &[u8]) -> Result<Option<Vec<u8>>, AllocErro
     Ok(None)
 }
 
-/// Returns the lines of a block scalar without `indent` bytes of indentation each. Their ends are line feeds.
+/// Returns the lines of a block scalar, each without its indentation of `indent` bytes. Each line end becomes
+/// a line feed.
 #[tactic(auto, unfolding(crate::specs::Decoded::lines_of))]
 fn lines_of(alloc: Global, indent: usize, text: &[u8]) -> Result<Vec<u8>, AllocError>
     ensures { IfOk result (λ lines. lines.items ≡ lines_of indent false 0 text.now) }

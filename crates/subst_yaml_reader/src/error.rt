@@ -19,11 +19,12 @@ pub enum Reason {
     Indentation,
     /// A key or an item is where only a value can be.
     NotAValue,
-    /// A mapping or a sequence is continued by something other than a key with a colon or an item.
+    /// A mapping is continued by something other than a key with a colon, or a sequence by something other
+    /// than an item.
     NotAnEntry,
     /// Text comes after a value.
     TextAfterValue,
-    /// Text comes after `...` without `---`.
+    /// Text follows `...` without a `---` between them.
     TextAfterEnd,
     /// A key is written after `?`, as in `? key`.
     ComplexKey,

@@ -18,9 +18,11 @@ pub enum Style {
     Single,
     /// In double quotes, which are part of the token.
     Double,
-    /// Lines after `|`. The span ends after the line end of the last line, or after a header without lines.
+    /// Lines after `|`. The span includes the line end of the last line. Without lines, it ends after the
+    /// header.
     Literal,
-    /// Lines after `>`. The span ends after the line end of the last line, or after a header without lines.
+    /// Lines after `>`. The span includes the line end of the last line. Without lines, it ends after the
+    /// header.
     Folded,
     /// An alias, `*name`.
     Alias,

@@ -70,7 +70,7 @@ impl Reader {
         }
     }
 
-    /// Appends a null if the entry has no value: after a key, or as an item that is only an anchor or a tag.
+    /// Appends a null if the entry is a key without a value, or an item that is only an anchor or a tag.
     /// Refuses the byte before `rest` if no entry can end there.
     #[tactic(auto, unfolding(crate::specs::Flow::finished))]
     fn finish_entry(&mut self, rest: &[u8]) -> Result<(), Halt>

@@ -40,8 +40,8 @@ fn append_others(value: &mut Vec<u8>, ends: &[u8]) -> Result<(), AllocError>
     }
 }
 
-/// Appends folded white space, whose line feeds are `ends`: `white` if there are none, a space for one, and
-/// all but the first of several.
+/// Appends folded white space. `ends` are its line feeds. Without line feeds, `white` is appended; with one,
+/// a space; with several, all of them but the first.
 fn append_joined(value: &mut Vec<u8>, white: &[u8], ends: &[u8]) -> Result<(), AllocError>
     ensures { IfOk result (λ _. value.new.items ≡ value.old.items ++ joined white.now ends.now) }
 {
@@ -78,7 +78,7 @@ pub(crate) fn append_gap(alloc: Global, value: &mut Vec<u8>, white: &[u8]) -> Re
     }
 }
 
-/// Appends the white space after a value to the value, folded, since more of the value follows.
+/// Folds the white space after a value, and appends it to the value, since more of the value follows.
 fn end_gap(alloc: Global, folded: &mut Folded) -> Result<(), AllocError>
     ensures value { IfOk result (λ _. folded.new.value.items
         ≡ folded.old.value.items ++ gap folded.old.white.items) }
@@ -89,7 +89,8 @@ fn end_gap(alloc: Global, folded: &mut Folded) -> Result<(), AllocError>
     Ok(())
 }
 
-/// Appends the white space before a piece, folded, and then the piece. A piece of white space is only kept.
+/// Appends the folded white space before a piece, and then the piece. A piece of white space is only kept,
+/// and folded later.
 pub(crate) fn append(alloc: Global, folded: &mut Folded, piece: Piece) -> Result<(), AllocError>
     ensures value { IfOk result (λ _. folded.new.value.items
         ≡ folded.old.value.items ++ added folded.old.white.items piece) }
@@ -117,8 +118,9 @@ pub(crate) fn append(alloc: Global, folded: &mut Folded, piece: Piece) -> Result
     Ok(())
 }
 
-/// Appends the line feeds between two lines in the style `>`, folded. `before` and `is_indented` are whether
-/// the first and the second line begin with a blank. `before` is `None` if there is no first line.
+/// Appends the line feeds between two lines in the style `>`, folded. `before` is whether the first line
+/// begins with a blank, or `None` if there is no first line. `is_indented` is whether the second line begins
+/// with a blank.
 fn append_between(
     value: &mut Vec<u8>,
     before: Option<bool>,
@@ -135,8 +137,8 @@ fn append_between(
     }
 }
 
-/// Returns whether the line of `byte` begins with a blank. `before` is the result for the byte before, which
-/// stays if no line feeds, `ends`, are between both bytes.
+/// Returns whether the line of `byte` begins with a blank. `before` is the result for the byte before, and
+/// `ends` are the line feeds between both bytes. Without line feeds, the result stays `before`.
 fn indented(before: Option<bool>, ends: &[u8], byte: u8) -> Option<bool>
     ensures { result ≡ indented before ends.now byte }
 {

@@ -1,4 +1,4 @@
-//! A law of the definitions that the contracts cite, as the contract of a function that does nothing.
+//! A law of the definitions that the contracts cite. The law is the contract of a function that does nothing.
 
 ghost use Rattle.std.specs.Prelude.{◌≡◌, ℕ, List, Some};
 ghost use Rattle.subst_yaml_reader.specs.declared.event.Event.{Event};

@@ -44,7 +44,7 @@ pub(crate) enum Next {
     Member,
 }
 
-/// The kind of an event, as far as the refusal of text after the event depends on it.
+/// The kind of an event, as far as it decides the reason for refusing text after the event.
 #[derive(Clone, Copy)]
 pub(crate) enum EventKind {
     /// The end of a collection in brackets.
@@ -81,7 +81,8 @@ pub(crate) struct Reader {
     pub(crate) is_fresh: bool,
     /// The tokens that are expected next.
     pub(crate) next: Next,
-    /// Whether the next value has an anchor, and whether a tag, that an earlier turn read.
+    /// Whether an earlier turn read an anchor for the next value, and whether an earlier turn read a tag for
+    /// it.
     pub(crate) pending: Properties,
     /// The open collections without brackets, the innermost last.
     pub(crate) blocks: Vec<Collection>,

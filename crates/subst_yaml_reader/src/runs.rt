@@ -19,8 +19,8 @@ pub(crate) enum Escape {
     Nothing,
     /// After the backslash.
     Escaped,
-    /// After the backslash, a letter and maybe digits: how many digits are missing, and the value of the
-    /// digits so far.
+    /// In an escape with digits, after its letter: how many digits are missing, and the value of the digits
+    /// so far.
     Digits(u8, u32),
 }
 
@@ -100,7 +100,8 @@ pub(crate) fn to_line_end(text: &[u8]) -> &[u8]
     rest
 }
 
-/// Returns the text after the bytes of a name at its start, or of a tag's name if `in_tag`.
+/// Returns the text without the bytes of a name at its start. The name is a tag's if `in_tag`, and otherwise
+/// that of an anchor or an alias.
 #[tactic(auto, unfolding(crate::specs::Runs::after_name))]
 pub(crate) fn after_name(text: &[u8], in_tag: bool) -> &[u8]
     ensures { result.now ≡ after_name in_tag text.now }
@@ -122,8 +123,9 @@ fn is_indentation(byte: u8) -> bool
     byte == b' ' || byte == b'\r'
 }
 
-/// Skips indentation, empty lines, and comments if `comments`, up to the next token. Returns the length of
-/// the text from the start of its line on (`line` for the first line), and the text from the token on.
+/// Skips indentation and empty lines before the next token, and also comments if `comments`. Returns the
+/// length of the text from the start of the token's line on, and the text from the token on. `line` is that
+/// length for the first line.
 #[tactic(auto, unfolding(crate::specs::Runs::after_lines))]
 #[inline(always)]
 pub(crate) fn after_lines(text: &[u8], line: usize, comments: bool) -> (usize, &[u8])
@@ -192,7 +194,8 @@ pub(crate) fn after_plain(text: &[u8], in_flow: bool) -> &[u8]
     end
 }
 
-/// Returns the text without the bytes at its start that belong to unquoted text and aren't blanks.
+/// Skips bytes that belong to unquoted text, whatever follows them, and that aren't blanks. Returns the text
+/// after these bytes.
 #[tactic(auto, unfolding(crate::specs::Search::after_inner))]
 #[inline(always)]
 fn after_inner(text: &[u8]) -> &[u8]
@@ -209,7 +212,7 @@ fn after_inner(text: &[u8]) -> &[u8]
     rest
 }
 
-/// Returns whether a byte is a line feed, and a document mark is at the start of `rest`, the text after it.
+/// Returns whether a byte is a line feed and `rest`, the text after the byte, begins with a document mark.
 fn breaks(byte: u8, rest: &[u8]) -> bool
     ensures { result ≡ breaks byte rest.now }
 {
@@ -319,7 +322,8 @@ fn with_digit(left: u8, value: u32, digit: u32) -> Option<Escape>
     }
 }
 
-/// Returns the state of an escape after `byte` in double quotes, or `None` if `byte` is wrong before `rest`.
+/// Returns the state of an escape after a byte in double quotes, or `None` if the byte isn't accepted.
+/// `escape` is the state before the byte, and `rest` is the text after it.
 pub(crate) fn escape_after(escape: Escape, byte: u8, rest: &[u8]) -> Option<Escape>
     ensures { result ≡ escape_after escape byte rest.now }
 {
@@ -411,8 +415,8 @@ fn next_line(outer: Option<usize>, text: &[u8]) -> Option<&[u8]>
     }
 }
 
-/// Returns the text after unquoted text, whose first line is before `text`, in a collection at column
-/// `outer`.
+/// Returns the text after the lines of unquoted text in a collection at the column `outer`. `text` begins
+/// after the first of these lines.
 #[tactic(auto, unfolding(crate::specs::Runs::after_plain_lines))]
 pub(crate) fn after_plain_lines(text: &[u8], outer: Option<usize>) -> &[u8]
     ensures { result.now ≡ after_plain_lines (length text.now + 1) outer text.now }
@@ -427,8 +431,8 @@ pub(crate) fn after_plain_lines(text: &[u8], outer: Option<usize>) -> &[u8]
     rest
 }
 
-/// Returns the text after the lines of a block scalar, which are at the column `indent`, or `end` if there
-/// are no lines. Empty lines at the end belong to the scalar if `keep`.
+/// Returns the text after the lines of a block scalar, or `end` if there are no lines. The lines are indented
+/// by `indent` spaces. Empty lines at the end belong to the scalar if `keep`.
 #[tactic(auto, unfolding(crate::specs::Runs::after_block))]
 pub(crate) fn after_block<'t>(text: &'t [u8], end: &'t [u8], indent: usize, keep: bool) -> &'t [u8]
     ensures { result.now ≡ after_block indent keep false 0 end.now text.now }

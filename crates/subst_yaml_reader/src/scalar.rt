@@ -26,8 +26,8 @@ pub(crate) struct Properties {
 /// on, and the text from the token on.
 pub(crate) type Spot<'t> = (bool, usize, &'t [u8]);
 
-/// The header of a block scalar: its digit, or 0 without one, whether it has `+`, and the text from the end
-/// of its line on.
+/// The header of a block scalar: its digit (0 if it has none), whether it has a `+`, and the text from the
+/// end of its line on.
 pub(crate) type Header<'t> = (usize, bool, &'t [u8]);
 
 /// Returns the text without its first byte if that is `byte`, and otherwise the text.
@@ -126,7 +126,8 @@ fn one_property(text: &[u8], line: usize, in_flow: bool) -> Result<(Properties, 
     Ok((found, after_gap(rest, line)))
 }
 
-/// Reads an anchor and a tag, if any, at the start of the text. Returns which, and the next token's position.
+/// Reads an anchor and a tag, if any, at the start of the text. Returns which of the two were read, and the
+/// next token's position.
 #[tactic(auto, unfolding(crate::specs::Scalar::node_properties))]
 #[inline(always)]
 pub(crate) fn node_properties(
@@ -148,7 +149,8 @@ pub(crate) fn node_properties(
     Ok((nothing, (false, line, text)))
 }
 
-/// Reads an anchor, a tag or both at the start of the text. Returns which, and the next token's position.
+/// Reads an anchor, a tag or both at the start of the text. Returns which of the two were read, and the next
+/// token's position.
 #[tactic(auto, unfolding(crate::specs::Scalar::node_properties, crate::specs::Scalar::second_property))]
 fn some_properties(text: &[u8], line: usize, in_flow: bool) -> Result<(Properties, Spot<'_>), Halt>
     requires { is_property text.now ≡ true }
@@ -232,7 +234,8 @@ pub(crate) fn fits_key(text: &[u8], colon: &[u8]) -> bool
     len <= LONGEST_KEY && !text[..len].contains(&b'\n')
 }
 
-/// Returns the digit, 1 to 9, at the start of the text, and the text after it, or 0 and the text.
+/// Returns the digit, 1 to 9, at the start of the text, and the text after the digit. Without such a digit,
+/// returns 0 and the whole text.
 pub(crate) fn digit_at(text: &[u8]) -> (usize, &[u8])
     ensures { digit_at text.now ≡ (result.0, result.1.now) }
 {

@@ -10,7 +10,7 @@ use std::simd::prelude::*;
 /// The number of bytes in a vector.
 const WIDTH: usize = 32;
 
-/// Returns the text from the first byte on that may begin a character that not every reader accepts.
+/// Searches for a byte that may begin a refused character, and returns the text from that byte on.
 pub(crate) fn after_clear(text: &[u8]) -> &[u8]
     ensures same { is_text text.now ≡ is_text result.now }
     ensures shorter { length result.now ≤ length text.now }
@@ -81,7 +81,8 @@ fn to_line_feed_bytewise(text: &[u8]) -> &[u8]
     rest
 }
 
-/// Returns the text from the first byte on that may end text in quotes, or begin an escape.
+/// Searches for a byte that may end text in quotes or begin an escape, and returns the text from that byte
+/// on.
 pub(crate) fn after_quoted(text: &[u8]) -> &[u8]
     ensures double { after_double Nothing text.now ≡ after_double Nothing result.now }
     ensures single { after_single false text.now ≡ after_single false result.now }
@@ -122,7 +123,8 @@ fn may_end_quoted(byte: u8) -> bool
     byte == b'"' || byte == b'\'' || byte == b'\\' || byte == b'\n'
 }
 
-/// Returns how many of the first 32 bytes are before one that may begin a refused character: 32 if none may.
+/// Returns the index of the first byte that may begin a refused character, or 32 if none of the first 32
+/// bytes may.
 #[inline(always)]
 fn clear_len(text: &[u8]) -> usize
     requires { 32 ≤ length text.now }
@@ -137,7 +139,7 @@ fn clear_len(text: &[u8]) -> usize
     first_set(marked.to_bitmask())
 }
 
-/// Returns how many of the first 32 bytes are before one that may end text in quotes: 32 if none may.
+/// Returns the index of the first byte that may end text in quotes, or 32 if none of the first 32 bytes may.
 #[inline(always)]
 fn quoted_len(text: &[u8]) -> usize
     requires { 32 ≤ length text.now }
@@ -150,7 +152,7 @@ fn quoted_len(text: &[u8]) -> usize
     first_set((quotes | others).to_bitmask())
 }
 
-/// Returns how many of the first 32 bytes are before a line feed: 32 if none is a line feed.
+/// Returns the index of the first line feed, or 32 if none of the first 32 bytes is a line feed.
 #[inline(always)]
 fn line_len(text: &[u8]) -> usize
     requires { 32 ≤ length text.now }

@@ -48,7 +48,7 @@ impl<'t> Events<'t> {
         Ok(Events::begin(alloc, text))
     }
 
-    /// Begins to read a text none of whose characters is refused.
+    /// Begins to read a text that has no refused character.
     #[tactic(auto, unfolding(crate::specs::Reading::events_of))]
     fn begin(alloc: Global, text: &'t [u8]) -> Events<'t>
         ensures events { to_come result ≡ events_of text.now }

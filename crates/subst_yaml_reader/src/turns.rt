@@ -42,8 +42,8 @@ fn after_version(text: &[u8]) -> Option<&[u8]>
     }
 }
 
-/// Returns the text from the end of its first line on, if that line is `%YAML 1.1` or `%YAML 1.2` and maybe a
-/// comment, and otherwise `None`.
+/// Returns the text from the end of its first line on. Returns `None` if that line isn't `%YAML 1.1` or
+/// `%YAML 1.2`, optionally with a comment.
 fn directive_end(text: &[u8]) -> Option<&[u8]>
     ensures { option_map (λ rest. rest.now) result ≡ directive_end text.now }
 {
@@ -58,7 +58,8 @@ fn is_at_line(line: usize, text: &[u8]) -> bool
 }
 
 /// Skips the directive `%YAML 1.1` or `%YAML 1.2` if `---` follows it. Returns the length of the text from
-/// the start of the next token's line on, and the text from that token on. Otherwise returns the arguments.
+/// the start of the next token's line on, and the text from that token on. If nothing is skipped, returns the
+/// arguments.
 #[tactic(auto, unfolding(crate::specs::Reading::after_directive))]
 pub(crate) fn after_directive(line: usize, text: &[u8]) -> (usize, &[u8])
     ensures { after_directive (line, text.now) ≡ (result.0, result.1.now) }

@@ -75,7 +75,7 @@ impl Fill for StringFiller<'_, '_, '_> {
         }
     }
 
-    // Each level of a walk makes this call, so its frame is kept out of the walk's.
+    // Not inlined, so that the stack frame of a recursive walk that calls this stays small.
     #[inline(never)]
     fn fill(&self, alloc: Global, source: &str) -> Result<String, Error> {
         let Some(variables) = self.variables else {

@@ -16,7 +16,7 @@ use subst::json::ReaderStop;
 /// The most levels of arrays and objects that the reader of JSON accepts.
 const LEVELS: u8 = 127;
 
-/// The most levels of arrays and inline tables, and parts of a key, that the reader of TOML accepts.
+/// The most levels of arrays and inline tables that the reader of TOML accepts, and the most parts of a key.
 const TOML_LEVELS: u8 = 80;
 
 /// The message of the reader of JSON if it states no reason.
@@ -182,7 +182,7 @@ impl Part {
     }
 }
 
-/// Returns the index of the first bracket that opens more than [`LEVELS`] levels, or `None` if none does.
+/// Returns the index of the first bracket that opens one level more than [`LEVELS`], or `None` if none does.
 fn past_levels(bytes: &[u8]) -> Option<usize>
     ensures { result ≡ bracket_past 0 parts.Outside 0 bytes.now }
 {
@@ -245,7 +245,8 @@ fn half_of_digit(digit: u8) -> Option<SurrogateHalf>
     }
 }
 
-/// Returns the bytes after the first six, which an escape such as `\ud800` has, or none if there are fewer.
+/// Returns the bytes after the first six, or none if there are fewer. An escape such as `\ud800` has six
+/// bytes.
 fn after_escape(bytes: &[u8]) -> &[u8]
     ensures { result.now ≡ drop 6 bytes.now }
 {
@@ -279,7 +280,7 @@ fn bytes_after(bytes: &[u8]) -> u8
     }
 }
 
-/// Returns the index of the first lone surrogate, half a pair without the other half, or `None` if there is
+/// Returns the index of the first lone surrogate (half a pair without the other half), or `None` if there is
 /// none. `string` begins with its opening quote.
 fn lone_surrogate(string: &[u8]) -> Option<usize>
     ensures value { result ≡ lone_at 0 1 string.now }

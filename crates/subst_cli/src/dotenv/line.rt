@@ -29,7 +29,8 @@ const TEXT_AFTER: &str = "text after the closing quote";
 pub(crate) enum Line<'t> {
     /// An empty line or a comment, and the text after it.
     Nothing(&'t [u8]),
-    /// A line that sets a name to a value, which is a shell-style text, and the text after the line.
+    /// A line that sets a name to a value. The fields are the name, the value as a shell-style text, and the
+    /// text after the line.
     Sets(&'t str, Vec<u8>, &'t [u8]),
     /// A wrong line, with the message of its error.
     Wrong(&'static str),
@@ -53,7 +54,8 @@ pub(crate) fn line_in(alloc: Global, text: &[u8]) -> Result<Line<'_>, AllocError
     named_line(alloc, without_export(begun))
 }
 
-/// Parses the first line of a text, from the line's name on: blanks and `export` before it are removed.
+/// Parses the first line of a text, from the line's name on. Blanks and `export` before the name are already
+/// removed.
 ///
 /// # Errors
 ///

@@ -23,14 +23,15 @@ pub(crate) enum Quote {
     Double,
 }
 
-/// A value as a shell-style text, in which `$$` is a dollar, and the bytes after the value.
+/// A value as a shell-style text, and the bytes after the value. In the shell-style text, `$$` is a dollar.
 #[derive(Drop)]
 pub(crate) struct Text<'t> {
     pub text: Vec<u8>,
     pub rest: &'t [u8],
 }
 
-/// Reads a value from `bytes`, after its opening quote, if any. Returns `None` if the quote never closes.
+/// Reads a value from `bytes`, which begin after the opening quote, if any. Returns `None` if the quote never
+/// closes.
 ///
 /// # Errors
 ///
@@ -58,7 +59,8 @@ pub(crate) fn text_in(
     }
 }
 
-/// Returns the value `text` when all bytes are read, or `None` if its closing quote is missing.
+/// Returns the value `text` once all bytes are read; inside quotes `None`, since the closing quote is
+/// missing.
 fn at_end<'t>(text: Vec<u8>, rest: &'t [u8], quote: Quote) -> Option<Text<'t>>
     ensures text { rest.now ≡ [] → option_map text_of result
         ≡ dotenv.before text.items (dotenv.at_end quote) }
@@ -96,7 +98,7 @@ fn add_piece<'t>(
     Ok(after)
 }
 
-/// Appends the shell-style text of `byte`, which begins no escape, and which the bytes `after` follow.
+/// Appends the shell-style text of `byte`, which begins no escape. `after` has the bytes after it.
 ///
 /// # Errors
 ///
@@ -152,7 +154,8 @@ fn escaped_dollar(byte: u8) -> Option<&'static [u8]>
     if byte == b'$' { Some(DOLLARS) } else { None }
 }
 
-/// Returns whether a dollar is literal: always in single quotes, and else if `after` begins with a backslash.
+/// Returns whether a dollar before `after` is literal: always in single quotes, otherwise only if `after`
+/// begins with a backslash.
 fn is_text(quote: Quote, after: &[u8]) -> bool
     ensures { result ≡ dotenv.is_text quote after.now }
 {
@@ -162,7 +165,8 @@ fn is_text(quote: Quote, after: &[u8]) -> bool
     }
 }
 
-/// Returns whether a byte ends a value: its closing quote, or without quotes a blank before a comment.
+/// Returns whether a byte ends a value. A quoted value ends at its closing quote, another value at a blank
+/// before a comment.
 fn closes(quote: Quote, byte: u8, after: &[u8]) -> bool
     ensures { result ≡ dotenv.closes quote byte after.now }
 {

@@ -47,7 +47,7 @@ impl<'m> VariableMap<'m> for Scope<'m, '_> {
     }
 }
 
-/// Looks up the values of the implementation of [`VariableMap`], as bytes.
+/// Looks up the same values as the implementation of [`VariableMap`], as bytes.
 impl<'m> BytesMap<'m> for Scope<'m, '_> {
     ghost use Rattle.std.proofs.Common.{refl, sym};
     ghost use Rattle.std.proofs.lemmas.Iterator.Adapters.{option_map_id};
@@ -63,7 +63,7 @@ impl<'m> BytesMap<'m> for Scope<'m, '_> {
 pub(crate) enum Unexpanded {
     /// A form is refused.
     Text(TextError),
-    /// A required variable is unset, or empty after `:?`.
+    /// A required variable is unset or, with `:?`, empty.
     Variable(Error),
 }
 
@@ -182,7 +182,8 @@ fn unreadable_in<'t>(
     Ok(None)
 }
 
-/// Returns the unset variable of `text` for the error of its template. The variable's message isn't expanded.
+/// Returns the unset variable that `missing`, the error of the template of `text`, reports. The variable's
+/// message isn't expanded.
 ///
 /// # Errors
 ///

@@ -77,7 +77,8 @@ impl<W: Write> ByteOutput for ToWriter<W> {
 
     ghost is_flushed = { λ output. output.flushed };
 
-    /// Writes a prefix of `bytes`. Fails if the writer fails, or accepts none of one or more bytes.
+    /// Writes a prefix of `bytes`. Fails if the writer fails, or if it writes nothing although `bytes` isn't
+    /// empty.
     fn write(&mut self, bytes: &[u8]) -> Result<usize, Failed> {
         self.flushed = false;
         match self.writer.write(bytes) {

@@ -33,7 +33,7 @@ pub fn run_bytes<'a, I: ByteInput, O: ByteOutput, M: VariableMap<'a>>(
 where
     M::Value: AsSlice<u8> + Drop,
 
-    // The bytes that were written are the answer of the source.
+    // The result and the bytes that were written agree with the answer of the source.
     ensures answer { ByLookUp M.Value.items M.see (M.look_up variables.now)
         (λ look. IfSome (I.left input.old) (λ source. RunAnswers source look
         result (O.written output.old) (O.written output.new))) }
@@ -44,15 +44,15 @@ where
     // Nothing was written, unless the run is done or writing failed.
     ensures unwritten { UnlessWriting result (Keeps (O.written output.old) (O.written output.new)) }
 
-    // The output was flushed after the last byte was written.
+    // If the run is done, the output was flushed after the last byte was written.
     ensures flushed { OnOk result (O.is_flushed output.new ≡ true) }
 
-    // A device is blamed only if it has failed, and no source for not being UTF-8.
+    // A device is blamed only if it has failed, and the source is never blamed for not being UTF-8.
     ensures read_fault { IsErrOf result RunError.Read → I.has_failed input.new ≡ true }
     ensures write_fault { IsErrOf result RunError.Write → O.has_failed output.new ≡ true }
     ensures faults { IfErr result IsFaultOfBytes }
 
-    // A failure isn't forgotten: unless the result blames a device, that device has not failed meanwhile.
+    // A failure isn't forgotten: if a device fails during the run, the result blames it.
     ensures input_unfailed { UnlessReadFails result
         (I.has_failed input.new ≡ I.has_failed input.old) }
     ensures output_unfailed { UnlessWriteFails result

@@ -38,7 +38,7 @@ pub fn run_text<'a, I: ByteInput, O: ByteOutput, M: VariableMap<'a>>(
 where
     M::Value: AsStr + Drop,
 
-    // The bytes that were written are the answer of the source.
+    // The result and the bytes that were written agree with the answer of the source.
     ensures answer { ByLookUp M.Value.text M.see (M.look_up variables.now)
         (λ look. IfSome (I.left input.old) (λ source. RunAnswers source look
         result (O.written output.old) (O.written output.new))) }
@@ -52,7 +52,7 @@ where
     // Nothing was written, unless the run is done or writing failed.
     ensures unwritten { UnlessWriting result (Keeps (O.written output.old) (O.written output.new)) }
 
-    // The output was flushed after the last byte was written.
+    // If the run is done, the output was flushed after the last byte was written.
     ensures flushed { OnOk result (O.is_flushed output.new ≡ true) }
 
     // A device is blamed only if it has failed.
@@ -64,7 +64,7 @@ where
     ensures highlighted { IfSome (I.left input.old)
         (λ source. IfErr result (HighlightsFault source)) }
 
-    // A failure isn't forgotten: unless the result blames a device, that device has not failed meanwhile.
+    // A failure isn't forgotten: if a device fails during the run, the result blames it.
     ensures input_unfailed { UnlessReadFails result
         (I.has_failed input.new ≡ I.has_failed input.old) }
     ensures output_unfailed { UnlessWriteFails result

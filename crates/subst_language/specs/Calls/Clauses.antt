@@ -96,9 +96,9 @@ EachEndsWithin s range list = All (λ it. (range it).end ≤ length s) list
 abbrev pub EachIsRangedIn : {A : Type 0} → List ℕ → (A → Range ℕ) → List A → Type 0
 EachIsRangedIn s range list = All (λ it. IsRangeIn s (range it)) list
 
--- The text s has this answer under a map. If the answer is bytes x, s is a sentence, and its output is x if
--- contracts know the bytes of the map's values. If the answer refuses s for f, it does so whatever values the
--- map's names have, and the range of f is in s.
+-- The text s has this answer under a map. If the answer is bytes x, then s is a sentence. Its output is x,
+-- provided that contracts can state the bytes of the map's values. If the answer is the refusal for f, s is
+-- refused for f whatever values the map's names have. The range of f is then in s.
 abbrev pub AnswersText : {Value Seen : Type 0} → (Value → List ℕ) → (Value → Seen)
     → (List ℕ → Option Seen) → List ℕ → Answer → Type 0
 AnswersText items see look_up s (Gives x) =

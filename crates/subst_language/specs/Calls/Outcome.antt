@@ -14,11 +14,11 @@ use Rattle.subst_language.specs.Language.Value.{Value, Bytes}
 use Rattle.subst_language.specs.Language.LookUp.{LookUp}
 use Rattle.subst_language.specs.Language.Answer.{Answer, Answers, Gives, Refuses, IsMissing}
 
--- if the result is an error e that states a fault, `fault_of e`, P holds of the fault
+-- if the result is an error e that states a fault, P holds of that fault, which is `fault_of e`
 abbrev pub OnFault : {T E : Type 0} → (E → Option Fault) → Result T E → (Fault → Type 0) → Type 0
 OnFault fault_of result P = IfErr result (λ e. IfSome (fault_of e) P)
 
--- if the result is an error without a fault, which is out of memory, P holds
+-- P holds if the result is an error that states no fault, that is, if memory ran out
 abbrev pub OnOutOfMemory : {T E : Type 0} → (E → Option Fault) → Result T E → Type 0 → Type 0
 OnOutOfMemory fault_of result P = IfErr result (λ e. IfNone (fault_of e) P)
 
@@ -35,8 +35,8 @@ ExpandsInto before (Ok done) after v = (x : List ℕ) × (v ≡ Bytes x) × (aft
 ExpandsInto before (Err e) after v = IfSome (expand_into_fault e) (IsMissing v)
 
 -- The result is `needed`, the number of bytes of the value v. The call changes a slice's bytes from `before`
--- to `after`: if the slice is long enough, it begins with the bytes of v, and its rest is unchanged. Or the
--- error states the missing variable.
+-- to `after`: if the slice is long enough, it then begins with the bytes of v, and its rest is unchanged. If
+-- v is a missing variable instead, the error states it.
 abbrev pub ExpandsIntoSlice : (before : List ℕ) → Result ℕ ExpandIntoError → (after : List ℕ) → Value → Type 0
 ExpandsIntoSlice before (Ok needed) after v =
     (x : List ℕ) × (v ≡ Bytes x) × (needed ≡ length x)

@@ -7,13 +7,13 @@ use Rattle.subst_language.specs.declared.variable.Variable.{Variable}
 use Rattle.subst_language.specs.declared.variable.VariableKind.{VariableKind}
 use Rattle.subst_language.specs.declared.variable.VariableKind.TheVariants.{Required, Optional, WithDefault}
 
--- the kind of the definitions for a kind in the code
+-- a kind in the code, as a kind of the definitions
 abbrev pub kind_of : VariableKind → variables.Kind
 kind_of Required = variables.Required
 kind_of Optional = variables.OrNothing
 kind_of WithDefault = variables.OrDefault
 
--- the variable of the definitions for a variable in the code
+-- a variable in the code, as a variable of the definitions
 abbrev pub variable_of : Variable → variables.Variable
 variable_of it = record { position = it.position; name = it.name.now; kind = kind_of it.kind }
 

@@ -42,12 +42,12 @@ mutual
     -- `${name:` whose default is never closed
     unclosed : {p : ℕ} (n w : List ℕ) → IsName n → ¬ (Closes w)
         → IsBad p (dollar ∷ opening_brace ∷ n ++ colon ∷ w) (MissingClosingBrace (p + 1))
-    -- `${name:default}` whose default has a fault, and any bytes after it
+    -- `${name:default}` with a fault in the default, and then any bytes
     inside : {p : ℕ} {f : Fault} (n w v : List ℕ) → IsName n → IsBalanced w → HasFault (p + 3 + length n) w f
         → IsBad p (dollar ∷ opening_brace ∷ n ++ (colon ∷ w ++ closing_brace ∷ v)) f
 
-  -- the text s at position p has the fault f: it is the text of a well-formed tree, and then a text that
-  -- begins with a bad item
+  -- the text s at position p has the fault f: in s, a bad item with this fault follows the text of a
+  -- well-formed tree
   pub data HasFault : (p : ℕ) → (s : List ℕ) → (f : Fault) → Type 0 where
     fault_after : {p : ℕ} {r : List ℕ} {f : Fault} (t : Tree) → IsWellFormed t
         → IsBad (p + length (text t)) r f → HasFault p (text t ++ r) f

@@ -32,9 +32,10 @@ abbrev pub without_expected : Fault → Fault
 without_expected (UnexpectedCharacter position character expected) = UnexpectedCharacter position character []
 without_expected f = f
 
--- each tree of s and, except for its message, each fault of s is one of the earlier language
+-- s reads as before: each of its trees is one in the earlier language too, and so is each of its faults,
+-- except for the message
 pub record ReadsAsBefore (s : List ℕ) : Type 0 where
-  -- each tree of s is its tree of the earlier language
+  -- each tree of s is a tree of s in the earlier language too
   pub tree : (t : Tree) → Spells t s → (u : EarlierTree) × EarlierSpells u s × (t ≡ extended u)
   -- s has a fault if and only if it has one in the earlier language
   pub fault : (p : ℕ) → ((f : Fault) × HasFault p s f) ↔ ((g : Fault) × HasEarlierFault p s g)
@@ -42,12 +43,13 @@ pub record ReadsAsBefore (s : List ℕ) : Type 0 where
   pub same_fault : (p : ℕ) (f g : Fault) → HasFault p s f → HasEarlierFault p s g
       → without_expected f ≡ without_expected g
 
--- s keeps its tree of the earlier language; if s has no question mark, it has no other tree or fault
+-- s keeps each tree that it has in the earlier language and, if it has no question mark, reads as before
 pub record KeepsReading (s : List ℕ) : Type 0 where
   -- each earlier tree of s is a tree of s
   pub tree : (t : EarlierTree) → EarlierSpells t s → Spells (extended t) s
   -- each earlier tree has the same value as before, at each position and under each look-up
   pub same_value : (t : EarlierTree) (p : ℕ) (look : LookUp)
       → value p (extended t) look ≡ earlier_value p t look
-  -- if s has no question mark, it has no other tree, and no other fault
+  -- if s has no question mark, it reads as before: it has no other tree, and no other fault except for the
+  -- message
   pub no_other : ¬ (Contains s question_mark) → ReadsAsBefore s

@@ -21,7 +21,7 @@ pub record OpensAt (p : ℕ) (s : List ℕ) (position : ℕ) : Type 0 where
   pub parts : s ≡ before ++ dollar ∷ opening_brace ∷ after
   pub brace : position ≡ p + length before + 1
 
--- a text that ends at position `end` and has this fault keeps it, whatever is appended
+-- this fault of a text that ends at position `end` remains, whatever is appended
 abbrev pub IsSettled : (end : ℕ) → Fault → Type 0
 IsSettled end (InvalidEscapeSequence position (Some character)) = Unit {0}
 IsSettled end (InvalidEscapeSequence position None) = ⊥
@@ -30,7 +30,7 @@ IsSettled end (UnexpectedCharacter position character expected) = Unit {0}
 IsSettled end (MissingClosingBrace position) = ⊥
 IsSettled end (NoSuchVariable position name) = ⊥
 
--- the first list is the second with some of its elements left out, or none
+-- the first list is the second with zero or more of its elements left out
 pub data IsSublist {X : Type 0} : List X → List X → Type 0 where
   nothing : IsSublist [] []
   kept : {x : X} {xs ys : List X} → IsSublist xs ys → IsSublist (x ∷ xs) (x ∷ ys)

@@ -8,7 +8,7 @@ abbrev pub ClosesAll : ℕ → List ℕ → Type 0
 ClosesAll zero w = Unit {0}
 ClosesAll (suc count) w = (x y : List ℕ) × IsBalanced x × (w ≡ x ++ closing_brace ∷ y) × ClosesAll count y
 
--- the text closes this many open braces, each after a balanced text, and is balanced after the last
+-- the text closes this many open braces, each after a balanced text, and the rest of it is balanced
 abbrev pub Completes : ℕ → List ℕ → Type 0
 Completes zero w = IsBalanced w
 Completes (suc count) w = (x y : List ℕ) × IsBalanced x × (w ≡ x ++ closing_brace ∷ y) × Completes count y

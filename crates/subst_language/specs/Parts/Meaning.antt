@@ -55,7 +55,7 @@ abbrev pub if_found : Option (List ℕ) → ℕ → ℕ
 if_found (Some x) next = next
 if_found None next = 0
 
--- the index before which an expansion skips the parts after this one; 0 if it skips none
+-- the index at which an expansion resumes after a default whose name has a value; after any other part 0
 abbrev pub resume_index : Part → List ℕ → LookUp → ℕ
 resume_index (Default name next) s look = if_found (look (span_bytes name s)) next
 resume_index _ s look = 0
@@ -79,7 +79,8 @@ parts_value parts s look = steps_value (parts_steps parts s look)
 abbrev pub parts_written : List Part → List ℕ → LookUp → List ℕ
 parts_written parts s look = steps_written (parts_steps parts s look)
 
--- the kind of a variable in braces, from the text after its name: optional before `?`, else with a default
+-- the kind of a variable in braces, from the text after its name: optional if the text begins with `?`, else
+-- with a default
 abbrev pub kind_before : List ℕ → Kind
 kind_before [] = variables.OrDefault
 kind_before (b ∷ rest) = if b == question_mark then variables.OrNothing else variables.OrDefault

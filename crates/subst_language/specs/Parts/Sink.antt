@@ -67,8 +67,8 @@ abbrev pub HasLength : {S First : Type 0} → HoldsFrom S First → S → ℕ �
 HasLength {First = First} holds sink n = (first : First) (parts : List Part)
     → holds sink first parts → n ≡ length parts
 
--- The default with this index and name is open. Once `next` of its part is the number of held parts, the part
--- fits below the limit.
+-- The default with this index and name is open and can be closed: with the number of held parts as its
+-- `next`, its part fits below the limit.
 pub record CanClose {S First : Type 0} (holds : HoldsFrom S First) (limit : ℕ) (sink : S) (index : ℕ)
     (name : Span) : Type 0 where
   pub first : First

@@ -3,7 +3,7 @@
 use crate::VariableMap;
 use std::convert::AsSlice;
 
-/// A map of bytes: contracts know the bytes of each value. The trait adds no method.
+/// A map of bytes: contracts can state the bytes of each value. The trait adds no method.
 ///
 /// Contracts of code that is generic in the map see it as a look-up of bytes. An implementation has two ghost
 /// members:

@@ -12,9 +12,9 @@ use std::collections::{BTreeMap, HashMap};
 use std::convert::{AsSlice, AsStr};
 use std::hash::BuildHasher;
 
-/// The law of maps of bytes. A value of a map and what contracts identify it with have the same bytes. This
-/// holds for each standard map whose values can be borrowed as bytes, for `Env`, and for `NoSubstitution`,
-/// which has no values.
+/// The law of maps of bytes. Contracts identify each value of a map with something that has the same bytes.
+/// This holds for each standard map whose values can be borrowed as bytes, for `Env`, and for
+/// `NoSubstitution`, which has no values.
 pub fn maps_are_look_ups<'a, 'k, V: AsSlice<u8> + 'a, S: BuildHasher>()
     ensures btree_map { ReadsAs ⟦<&'a V as AsSlice<u8>>⟧.items
         ⟦<BTreeMap<String, V> as VariableMap<'a>>⟧.see V.items }
@@ -34,8 +34,9 @@ pub fn maps_are_look_ups<'a, 'k, V: AsSlice<u8> + 'a, S: BuildHasher>()
         ⟦<Env as VariableMap<'a>>⟧.see (λ bytes. bytes) }
 {}
 
-/// The law of maps of texts. A value of a map and what contracts identify it with have the same text. This
-/// holds for each standard map whose values can be borrowed as texts, and for `Env` and `NoSubstitution`.
+/// The law of maps of texts. Contracts identify each value of a map with something that has the same text.
+/// This holds for each standard map whose values can be borrowed as texts, and for `Env` and
+/// `NoSubstitution`.
 pub fn maps_are_look_ups_of_texts<'a, 'k, V: AsStr + 'a, S: BuildHasher>()
     ensures btree_map { ReadsAs ⟦<&'a V as AsStr>⟧.text
         ⟦<BTreeMap<String, V> as VariableMap<'a>>⟧.see V.text }

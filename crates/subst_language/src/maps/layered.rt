@@ -1,4 +1,4 @@
-//! `Layered`: two maps as one, which may have values of different types.
+//! `Layered`: two maps as one. The two may have values of different types.
 
 ghost use Rattle.std.specs.Prelude.{◌≡◌};
 ghost use Rattle.subst_language.specs.Maps.{of_one};

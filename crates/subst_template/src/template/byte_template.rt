@@ -1,6 +1,6 @@
-//! Templates over borrowed byte sources: a source, and its parts, owned or borrowed. Only a sentence has a
-//! template, which expands to the value of the source's tree. Contracts bound the reads of a parse and count
-//! the turns of an expansion.
+//! Templates over borrowed byte sources: a source, with parts that are owned or borrowed. Only a sentence has
+//! a template, which expands to the value of the source's tree. Contracts bound the reads of a parse and
+//! count the turns of an expansion.
 
 ghost use Rattle.std.specs.Prelude.{◌≡◌, ◌+◌, ◌*◌, ◌^◌, ◌≤◌, length, IfOk, IfErr, OnErr, OnOk};
 ghost use Rattle.std.specs.Prelude.{vec_capacity, vec_len};
@@ -182,7 +182,7 @@ impl<'a> ByteTemplate<'a> {
         ensures kept { OnErr result (output.new.items ≡ output.old.items) }
         ensures capacity { vec_capacity output.old ≤ vec_capacity output.new }
 
-        // Out of memory only if the capacity is less than the bytes written.
+        // Out of memory only if the spare capacity is less than the bytes written.
         ensures full { ByWritten M.Value.items M.see (M.look_up variables.now) self.now
             (Overflows (vec_capacity output.old) (vec_len output.old) result) }
         ensures sentence { IsSentence self.now }
@@ -234,9 +234,11 @@ impl<'a> ByteTemplate<'a> {
     }
 
     /// Returns the missing variables, in the order of the source: each that an expansion needs and
-    /// `variables` has no value for. The names in an unused default aren't needed. If the template expands,
-    /// there is none, and otherwise the first is the one that `expand` returns. A name that is missing twice
-    /// is listed twice, at both positions. No value is read.
+    /// `variables` has no value for. The names in an unused default aren't needed. A name that is missing
+    /// twice is listed twice, at both positions.
+    ///
+    /// The list is empty if the template expands. Otherwise its first variable is the one that `expand`
+    /// returns. No value is read.
     ///
     /// # Errors
     ///

@@ -1,4 +1,5 @@
-//! Templates that own their byte sources: a source and its parts. A `ByteTemplate` can be borrowed from each.
+//! Templates that own their byte sources: a source and its parts. Such a template can be borrowed as a
+//! `ByteTemplate`.
 
 ghost use Rattle.std.specs.Prelude.{◌≡◌, ◌≤◌, IfOk, OnErr};
 ghost use Rattle.std.specs.Prelude.{vec_capacity, vec_len};

@@ -1,4 +1,5 @@
-//! Templates over borrowed texts, with the contracts of `ByteTemplate` over the bytes of texts.
+//! Templates over borrowed texts. Their contracts are like those of `ByteTemplate`, and are about the bytes
+//! of the texts.
 
 ghost use Rattle.std.specs.Prelude.{◌≡◌, ◌≤◌, IfOk, OnErr};
 ghost use Rattle.std.specs.Prelude.{string_bytes, string_capacity, string_len};
@@ -90,7 +91,7 @@ impl<'a> Template<'a> {
         ensures value { ByValue M.Value.text M.see (M.look_up variables.now) self.now
             (Expands (λ output. string_bytes output) result) }
 
-        // For any map: the source has a tree, and an error states the variable that its evaluation misses,
+        // For any map, the source has a tree. An error states the variable that the tree's evaluation misses,
         // with a range in the source.
         ensures sentence { IsSentence self.now }
         ensures missing { Misses (M.look_up variables.now) self.now expand_fault result }
@@ -128,7 +129,7 @@ impl<'a> Template<'a> {
         ensures kept { OnErr result (string_bytes output.new ≡ string_bytes output.old) }
         ensures capacity { string_capacity output.old ≤ string_capacity output.new }
 
-        // Out of memory only if the capacity is less than the bytes written.
+        // Out of memory only if the spare capacity is less than the bytes written.
         ensures full { ByWritten M.Value.text M.see (M.look_up variables.now) self.now
             (Overflows (string_capacity output.old) (string_len output.old) result) }
         ensures sentence { IsSentence self.now }
@@ -162,9 +163,11 @@ impl<'a> Template<'a> {
     }
 
     /// Returns the missing variables, in the order of the source: each that an expansion needs and
-    /// `variables` has no value for. The names in an unused default aren't needed. If the template expands,
-    /// there is none, and otherwise the first is the one that `expand` returns. A name that is missing twice
-    /// is listed twice, at both positions. No value is read.
+    /// `variables` has no value for. The names in an unused default aren't needed. A name that is missing
+    /// twice is listed twice, at both positions.
+    ///
+    /// The list is empty if the template expands. Otherwise its first variable is the one that `expand`
+    /// returns. No value is read.
     ///
     /// ```rust
     /// let template = Template::from_str(alloc, "$a ${b:${c?}$a}")?;

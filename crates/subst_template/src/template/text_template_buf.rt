@@ -1,4 +1,5 @@
-//! Templates that own their texts, with the contracts of `ByteTemplateBuf` over the bytes of texts.
+//! Templates that own their texts. Their contracts are like those of `ByteTemplateBuf`, and are about the
+//! bytes of the texts.
 
 ghost use Rattle.std.specs.Prelude.{◌≡◌, ◌≤◌, IfOk, OnErr};
 ghost use Rattle.std.specs.Prelude.{string_bytes, string_capacity, string_len};
@@ -131,7 +132,7 @@ impl TemplateBuf {
         ensures value { ByValue M.Value.text M.see (M.look_up variables.now) self.now
             (Expands (λ output. string_bytes output) result) }
 
-        // For any map: the source has a tree, and an error states the variable that its evaluation misses,
+        // For any map, the source has a tree. An error states the variable that the tree's evaluation misses,
         // with a range in the source.
         ensures sentence { IsSentence self.now }
         ensures missing { Misses (M.look_up variables.now) self.now expand_fault result }
@@ -160,7 +161,7 @@ impl TemplateBuf {
         ensures kept { OnErr result (string_bytes output.new ≡ string_bytes output.old) }
         ensures capacity { string_capacity output.old ≤ string_capacity output.new }
 
-        // Out of memory only if the capacity is less than the bytes written.
+        // Out of memory only if the spare capacity is less than the bytes written.
         ensures full { ByWritten M.Value.text M.see (M.look_up variables.now) self.now
             (Overflows (string_capacity output.old) (string_len output.old) result) }
         ensures sentence { IsSentence self.now }

@@ -1,6 +1,6 @@
-//! Paths to the strings of a document, by a copy of it in which each string is replaced by its index. Indices
-//! count from 0 in document order. The tree of the copy has the same shape, with the indices in place of the
-//! strings.
+//! Paths to the strings of a document, found in a copy of it in which each string is replaced by its index.
+//! Indices begin at 0, in document order. The tree of the copy has the same shape, with the indices in place
+//! of the strings.
 
 ghost use Rattle.std.specs.Prelude.{IfOk, IfSome, IsTrue};
 ghost use Rattle.std.specs.Fmt.{decimal};
@@ -110,7 +110,7 @@ fn paths_of(
     Ok(paths)
 }
 
-/// Sets in `paths` the paths to the refused strings inside `part`. `steps` lead to `part`.
+/// Finds the paths to the refused strings inside `part`, and sets them in `paths`. `steps` lead to `part`.
 #[cycle(paths)]
 fn add_paths(
     alloc: Global,
@@ -142,7 +142,7 @@ fn add_paths(
     }
 }
 
-/// Sets to `steps` the path of the refused string with the index `number`, if there is such a string.
+/// Sets the path of the refused string with the index `number` to `steps`, if there is such a string.
 fn add_path(
     number: &str,
     refused: &[RefusalAt<usize>],

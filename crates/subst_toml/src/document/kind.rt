@@ -33,8 +33,9 @@ fn is_literal(byte: u8) -> bool
     is_non_eol(byte) && byte != b'\''
 }
 
-/// Appends `value`, spelled in the kind of `token`. Returns `false` if the kind can't spell it. If the
-/// document's lines end in `\r\n`, no line feed of `value` is kept as it is.
+/// Appends `value`, spelled in the token's kind of string. Returns `false` if that kind can't spell it. If
+/// the document's lines end in `\r\n`, a line feed in `value` is escaped; in single quotes it can't be
+/// spelled.
 pub(super) fn write_value(
     token: &str,
     value: &str,

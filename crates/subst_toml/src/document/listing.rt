@@ -45,7 +45,8 @@ pub fn strings(alloc: Global, source: &str) -> Result<Option<Vec<StringAt>>, Err
     }
 }
 
-/// Lists the strings of a TOML document that are refused if it is filled in from `variables`, in order.
+/// Lists in document order the strings of `source`, a TOML document, that are refused when filled in from
+/// `variables`.
 ///
 /// The result is `None` if a string isn't found by its path or its range; no document is known for which that
 /// happens.

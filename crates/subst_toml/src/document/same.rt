@@ -1,4 +1,5 @@
-//! Equality of trees: by keys, strings, integers, booleans, the bits of floats, and all parts of dates.
+//! Equality of trees, by their keys and values. Floats are equal if they have the same bits or are both NaN,
+//! and dates if all their parts are equal.
 
 ghost use Rattle.std.specs.Prelude.{◌≡◌, IsTrue};
 ghost use Rattle.toml.specs.View.{view, items_view, members_view};

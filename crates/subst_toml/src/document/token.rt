@@ -100,7 +100,7 @@ impl StringFormat for Quoted {
     }
 }
 
-/// Returns whether a span of `source` spells the string `text`, between quotes.
+/// Returns whether a span of `source`, quotes included, spells the string `text`.
 pub(crate) fn is_spelled(
     alloc: Global,
     source: &str,

@@ -33,9 +33,9 @@ impl Style {
     }
 }
 
-/// Returns the span in the document of `range`, a range of a string. `text` is the string's token, which is
-/// at `token` in the document and has `quotes` quotes at each end. The span is right only if `range` starts
-/// and ends between characters.
+/// Returns the span of the document that spells `range`, a range of a string. `text` is the string's token,
+/// which is at `token` in the document and has `quotes` quotes at each end. The span is right only if `range`
+/// starts and ends between characters.
 pub(super) fn place(
     text: &str,
     quotes: usize,
@@ -64,7 +64,8 @@ pub(crate) fn without_newline(content: &str, style: Style) -> &str {
     }
 }
 
-/// Returns `text` after the spelling of the string's next `len` bytes, or `None` if `text` ends before.
+/// Returns the rest of `text` after the spelling of the string's next `len` bytes, or `None` if `text` ends
+/// before that.
 pub(crate) fn after_spelling(text: &str, len: usize, style: Style) -> Option<&str> {
     let mut rest = text;
     let mut left = len;
@@ -76,7 +77,7 @@ pub(crate) fn after_spelling(text: &str, len: usize, style: Style) -> Option<&st
     Some(rest)
 }
 
-/// Returns `text` after the pieces at its start that spell nothing: backslashes at a line's end.
+/// Returns the rest of `text` after the pieces at its start that spell nothing: backslashes at a line's end.
 pub(crate) fn after_left_out(text: &str, style: Style) -> &str {
     let mut rest = text;
     'pieces: while let Some(
@@ -107,7 +108,8 @@ fn first_piece(text: &str, style: Style) -> Option<Piece<'_>>
     }
 }
 
-/// Returns the piece of an escape whose backslash precedes `text`, or `None` if it isn't an escape.
+/// Returns the piece of the escape whose backslash precedes `text`. Returns `None` if `text` is empty or the
+/// escape is an invalid hex escape.
 fn escape(text: &str, is_multi_line: bool) -> Option<Piece<'_>>
     ensures within { IfSome result (λ piece. length piece.rest.now ≤ length text.now) }
 {
@@ -137,7 +139,8 @@ fn hex_escape(text: &str, digits: usize) -> Option<Piece<'_>>
     })
 }
 
-/// Returns the first character of `text` as a piece that spells as many bytes, or `None` for an empty text.
+/// Returns the first character of `text` as a piece, which spells as many bytes as the character has. The
+/// result is `None` if `text` is empty.
 fn character(text: &str) -> Option<Piece<'_>>
     ensures shorter { IfSome result (λ piece. length piece.rest.now < length text.now) }
 {

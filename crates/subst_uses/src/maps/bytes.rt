@@ -1,4 +1,5 @@
-//! Bytes expanded from each kind of map, by its lookup. For a `BTreeMap` with owned keys, see `filled`.
+//! Bytes expanded from each kind of map. Contracts state the look-up of the map. For a `BTreeMap` with owned
+//! keys, see `filled`.
 
 ghost use Rattle.std.specs.Prelude.{IfSome};
 ghost use Rattle.std.specs.Option.{option_map, option_or};

@@ -1,4 +1,4 @@
-//! Texts expanded from each kind of map, by its lookup.
+//! Texts expanded from each kind of map. Contracts state the look-up of the map.
 
 ghost use Rattle.std.specs.Prelude.{IfSome, string_bytes};
 ghost use Rattle.std.specs.Option.{option_map, option_or};

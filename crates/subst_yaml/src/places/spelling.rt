@@ -1,5 +1,5 @@
 //! Divides a token into pieces, each with the length of the part of the string that it spells. No contract
-//! states how: each span is confirmed before it is returned.
+//! states how. Instead, the calling module confirms each span before returning it.
 
 use std::ops::Range;
 use subst_yaml_reader::Style;
@@ -64,8 +64,8 @@ pub(crate) struct Cursor<'t> {
 }
 
 impl<'t> Cursor<'t> {
-    /// Creates the position at the start of a token's content, after a quote or a header without its line
-    /// end. `start` is the offset of the token in the source.
+    /// Creates the position at the start of a token's content, after the quote or the header, if any. The
+    /// line end of a header is part of the content. `start` is the offset of the token in the source.
     pub(crate) fn new(scalar: Scalar, token: &'t [u8], start: usize) -> Cursor<'t> {
         let len = opening_len(scalar.style, token);
         let rest = token.get(len..).unwrap_or(&[]);
