@@ -53,6 +53,15 @@ impl Show for filled::RefusalAt {
     }
 }
 
+impl Show for yaml::RefusalAt {
+    fn show(&self, rt: &HostRuntime, word: &str) {
+        self.path.show(rt, word);
+        self.span.show(rt, word);
+        self.text.show(rt, word);
+        self.error.show(rt, word);
+    }
+}
+
 impl Show for yaml::Error {
     fn show(&self, rt: &HostRuntime, word: &str) {
         match self {
@@ -117,8 +126,19 @@ pub fn toml_calls(rt: &HostRuntime) -> Result<(), AllocError> {
 
 pub fn yaml_calls(rt: &HostRuntime) -> Result<(), AllocError> {
     calls_of_fill_in!(rt, yaml "yaml" => YAML, MISSING_IN_YAML);
-    let map = texts(rt.alloc(), VARIABLES)?;
+    let alloc = rt.alloc();
+    let map = texts(alloc, VARIABLES)?;
     again!(rt, "yaml::fill_in of a refused text", [NO_YAML, map],
-        Err(yaml::Error::OutOfMemory(_)) => yaml::fill_in(rt.alloc(), NO_YAML, &map));
+        Err(yaml::Error::OutOfMemory(_)) => yaml::fill_in(alloc, NO_YAML, &map));
+    again!(rt, "yaml::strings", [YAML],
+        Err(yaml::Error::OutOfMemory(_)) => yaml::strings(alloc, YAML));
+    again!(rt, "yaml::refusals_in", [MISSING_IN_YAML, map],
+        Err(yaml::Error::OutOfMemory(_)) => yaml::refusals_in(alloc, MISSING_IN_YAML, &map));
+    again!(rt, "yaml::places_in", [MISSING_IN_YAML],
+        Err(_) => yaml::places_in(alloc, MISSING_IN_YAML, 14..29, &ranges()));
+    if let Err(e) = yaml::fill_in(alloc, MISSING_IN_YAML, &map) {
+        again!(rt, "yaml::report", [MISSING_IN_YAML, map],
+            Err(_) => yaml::report(alloc, "app.yaml", MISSING_IN_YAML, &map, &e).map(|it| 0..it.len()));
+    }
     Ok(())
 }

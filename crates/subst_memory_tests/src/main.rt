@@ -31,6 +31,7 @@ fn main(rt: HostRuntime) -> Result<(), Error> {
     documents::toml_calls(&rt)?;
     refusals::json_calls(&rt)?;
     refusals::toml_calls(&rt)?;
+    refusals::yaml_calls(&rt)?;
     in_place::json_calls(&rt)?;
     in_place::toml_calls(&rt)?;
     in_place::yaml_calls(&rt)?;

@@ -6,7 +6,7 @@ use crate::documents::VARIABLES;
 use crate::free_errors::display;
 use std::alloc::AllocError;
 use std::ops::Range;
-use subst::{json, toml as filled};
+use subst::{json, toml as filled, yaml};
 use subst_testing::variables::texts;
 
 /// A JSON text with two equal keys. The second and the third of its members have refused strings.
@@ -14,6 +14,9 @@ const JSON: &str = "{\"a\":\"x\",\"\\u0061\":{\"b/~\":[\"$name\",\"\\u00e9$absen
 
 /// A TOML document with a refused string under a dotted key, and one after it.
 const TOML: &str = "a.\"\\u0062 c\" = ['$name', \"\\u00E9$absent\"]\nd = '$'\n";
+
+/// A YAML text with a refused value under a quoted key, and one after it.
+const YAML: &str = "a: x\nb: {\"c d\": [$name, \"\\u00e9$absent\"]}\nd: $\n";
 
 /// Returns the byte range of the name in the first refused string of each document.
 fn name_in_string() -> Range<usize> {
@@ -47,15 +50,22 @@ impl Show for filled::Path {
     }
 }
 
+impl Show for yaml::Path {
+    fn show(&self, rt: &HostRuntime, word: &str) {
+        let _ = rt.println(format_args!("{word} {self}"));
+    }
+}
+
 /// Makes the calls on the first refused string of a document: the span of the name in it, and its path.
+/// `$listed` is the pattern of the list `$refused` in the result of `refusals_in`.
 macro_rules! calls_of_refusals {
-    ($rt:ident, $format:ident, $name:literal, $source:ident) => {
+    ($rt:ident, $format:ident, $name:literal, $source:ident, $refused:ident in $listed:pat) => {
         let alloc = $rt.alloc();
         let map = texts(alloc, VARIABLES)?;
-        let Ok(Some(refused)) = $format::refusals_in(alloc, $source, &map) else {
+        let $listed = $format::refusals_in(alloc, $source, &map) else {
             return Err(AllocError);
         };
-        let Some(first) = refused.first() else {
+        let Some(first) = $refused.first() else {
             return Err(AllocError);
         };
         let (start, end) = (first.span.start, first.span.end);
@@ -66,11 +76,16 @@ macro_rules! calls_of_refusals {
 }
 
 pub fn json_calls(rt: &HostRuntime) -> Result<(), AllocError> {
-    calls_of_refusals!(rt, json, "json", JSON);
+    calls_of_refusals!(rt, json, "json", JSON, refused in Ok(Some(refused)));
     Ok(())
 }
 
 pub fn toml_calls(rt: &HostRuntime) -> Result<(), AllocError> {
-    calls_of_refusals!(rt, filled, "toml", TOML);
+    calls_of_refusals!(rt, filled, "toml", TOML, refused in Ok(Some(refused)));
+    Ok(())
+}
+
+pub fn yaml_calls(rt: &HostRuntime) -> Result<(), AllocError> {
+    calls_of_refusals!(rt, yaml, "yaml", YAML, refused in Ok(refused));
     Ok(())
 }
