@@ -75,8 +75,8 @@ NO_YAML = (
     (b'a: {{ .x }}\n', told('<stdin>:1:5', "invalid YAML: a collection as a key isn't supported; is this a Helm or "
                             'Jinja template?', 'a: {{ .x }}', '    ^')),
     (b'a: "$x\n', told('<stdin>:1:4', "invalid YAML: a missing closing quote", 'a: "$x', '   ^')),
-    (b'- a: b: c\n', told('<stdin>:1:6', 'invalid YAML: a key or an item in place of a value; quote a value with '
-                          "': '", '- a: b: c', '     ^')),
+    (b'- a: b: c\n', told('<stdin>:1:6', 'invalid YAML: a key or an item in place of a value; quote values that '
+                          "contain ': '", '- a: b: c', '     ^')),
 )
 # A file of YAML documents, and its output if A is "b: c".
 YAML = (b'# "$A"\r\nb  :\t$A # $A\r\n"$A": &a !t \'$A\'\r\nc:\r\n- "$A"\r\n- *a\r\n- |  # $A\r\n  x $A\r\n'

@@ -197,7 +197,7 @@ fn run_wrongly(rt: &HostRuntime) -> Result<(), AllocError> {
     let arguments = arguments_of(rt.alloc(), "bytes name")?;
     let (mut output, mut errors) = (new_drip(rt.alloc())?, new_drip(rt.alloc())?);
     let pairs = Vec::new(rt.alloc());
-    let status = once!(rt, "run_program after wrong arguments" =>
+    let status = once!(rt, "run_program of wrong arguments" =>
         status_of_run(rt.alloc(), &arguments, pairs, &mut output, &mut errors));
     let _ = rt.println(format_args!("status {status}"));
     output.show(rt, "gives");

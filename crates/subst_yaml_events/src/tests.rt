@@ -251,7 +251,7 @@ const REASONS: [(Reason, &str); 23] = [
     ),
     (
         Reason::NotAValue,
-        "a key or an item in place of a value; quote a value with ': '",
+        "a key or an item in place of a value; quote values that contain ': '",
     ),
     (
         Reason::NotAnEntry,

@@ -11,7 +11,7 @@ use Rattle.subst_yaml_reader.specs.declared.error.Reason.TheVariants as reason
 abbrev pub display_of_reason : Reason → List ℕ
 display_of_reason reason.Tab = codes "a tab in the indentation"
 display_of_reason reason.Indentation = codes "an indentation that no line before has"
-display_of_reason reason.NotAValue = codes "a key or an item in place of a value; quote a value with ': '"
+display_of_reason reason.NotAValue = codes "a key or an item in place of a value; quote values that contain ': '"
 display_of_reason reason.NotAnEntry = codes "not a key or an item of the collection at this indentation"
 display_of_reason reason.TextAfterValue = codes "text after a value"
 display_of_reason reason.TextAfterEnd = codes "text after '...' without '---'"
