@@ -1,4 +1,5 @@
--- The types of errors, for specs and proofs of callers. The cases of `Error` are in `error`, and so on.
+-- The types of errors, for specs and proofs of callers. The cases of each type have a module of their own,
+-- such as `error` for `Error`.
 pub use Rattle.subst_error.specs.declared.CharOrByte.{CharOrByte}
 pub use Rattle.subst_error.specs.declared.Error.{Error}
 pub use Rattle.subst_error.specs.declared.ExpandError.{ExpandError}

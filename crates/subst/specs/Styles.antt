@@ -1,4 +1,5 @@
--- The types of texts of other tools, for specs and proofs of callers. The cases of `Forms` are in `forms`.
+-- Types that concern texts of other tools, for specs and proofs of callers. The cases of `Forms` are in
+-- `forms`.
 pub use Rattle.subst_foreign.specs.declared.forms.Forms.{Forms}
 pub use Rattle.subst_foreign.specs.declared.forms.Missing.{Missing}
 pub use Rattle.subst_foreign.specs.declared.forms.Operator.{Operator}

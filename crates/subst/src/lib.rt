@@ -21,11 +21,12 @@
 //! Variables come from a `BTreeMap`, a `HashMap` or an `IndexMap` with keys `String` or `&str`, from pairs in
 //! an [`Env`], or from any other [`VariableMap`]. [`NoSubstitution`] is an empty map, [`Layered`] combines
 //! two maps, and [`NoEmpty`] treats empty values as unset. [`ShellMap`] is a map for templates of shell-style
-//! texts. In such a template a name that begins with the digit 1, 2 or 3 is a question about the variable
-//! whose name follows. [`is_name`] tests names.
+//! texts. In such a template, a name that begins with 1, 2 or 3 is a question about the variable whose name
+//! follows the digit. [`is_name`] tests names.
 //!
 //! [`json`] and [`toml`] read a tree first and then fill in its strings. [`yaml`] fills in the values of a
-//! text. So no value can break out of its string. They share [`Fill`], [`StringAt`] and [`RefusalAt`].
+//! text. With all three modules, no variable's value can break out of its string. The three share [`Fill`],
+//! [`StringAt`] and [`RefusalAt`].
 //!
 //! This crate has no code of its own. It re-exports public items of the crates below it, under the names of
 //! the Rust crate `subst`.

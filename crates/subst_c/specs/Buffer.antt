@@ -16,7 +16,7 @@ pub record IsTooLong {A : Type 0} (IsWanted : List A → Type 0) (needed : ℕ) 
   pub counted : needed ≡ length items
   pub longer : length buffer < needed
 
--- the effect of a call with this result on the buffer, and on the count of needed items
+-- the effect that a call with the result `result` has on the buffer, and on the count of needed items
 pub record FillsBuffer {A : Type 0} (IsWanted : List A → Type 0) (result needed_old needed : ℕ)
     (old new : List A) : Type 0 where
   -- the buffer begins with the wanted items

@@ -95,7 +95,7 @@ IsFirst Yaml look s it =
     × (yaml_listed.found_of first ≡ record { text = it.text; span = it.token; path = it.path })
     × (error_fault first.error ≡ Some it.fault)
 
--- the record has the kind of the fault of `it`, and the span in s that spells the fault's range of the string
+-- `reported` has the kind of `it.fault`, and the span in s that spells the fault's range in the string
 pub record IsRecordIn (format : Format) (s : List ℕ) (it : Refused format) (reported : FaultRecord)
     : Type 0 where
   pub kind : reported.kind ≡ fault_number it.fault

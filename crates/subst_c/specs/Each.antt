@@ -19,8 +19,8 @@ abbrev pub ends_from : ℕ → List (List ℕ) → List ℕ
 ends_from n [] = []
 ends_from n (output ∷ outputs) = (n + length output) ∷ ends_from (n + length output) outputs
 
--- `bytes` is the outputs of the source s with these rows, concatenated, and `ends` has the position at which
--- each output ends; s is a sentence, even if there is no row
+-- The concatenated outputs of the source s with `rows` are `bytes`, and `ends` has the position at which each
+-- output ends. Even if `rows` is empty, s is a sentence
 pub record AreOutputs (s : List ℕ) (rows : List Row) (bytes ends : List ℕ) : Type 0 where
   pub sentence : IsSentence s
   pub outputs : List (List ℕ)

@@ -19,7 +19,7 @@ record_of f =
     let range = range_of (Some f) in
     record { kind = fault_number f; position = range.start; length = range.end - range.start }
 
--- the record is that of a fault with this property
+-- the record is that of a fault with the property `IsSuch`
 abbrev pub IsRecordOf : (Fault → Type 0) → FaultRecord → Type 0
 IsRecordOf IsSuch reported = (f : Fault) × IsSuch f × (reported ≡ record_of f)
 
@@ -27,10 +27,10 @@ IsRecordOf IsSuch reported = (f : Fault) × IsSuch f × (reported ≡ record_of 
 abbrev pub LiesIn : List ℕ → FaultRecord → Type 0
 LiesIn s reported = reported.position + reported.length ≤ length s
 
--- the effect of a call with this result on the record of a fault
+-- the effect that a call with the result `result` has on the record of a fault
 pub record SetsFault (IsSuch : FaultRecord → Type 0) (s : List ℕ) (result : ℕ) (old new : FaultRecord)
     : Type 0 where
-  -- the record has the property
+  -- the new record has the property `IsSuch`
   pub refused : result ≡ REFUSED → IsSuch new
   -- the span of the record lies in the source s
   pub within : result ≡ REFUSED → LiesIn s new

@@ -41,7 +41,7 @@ form_number form.Message = 14
 form_number form.Brace = 15
 form_number form.Unclosed = 16
 
--- the text of a shell is refused for the form with this number, which begins at this position
+-- the shell-style text s is refused for the form that begins at `position` and has the number `number`
 abbrev pub IsRefusedFor : (s : List ℕ) → (number position : ℕ) → Type 0
 IsRefusedFor s number position = (form : ShellForm) × (number ≡ form_number form)
     × IsRefusalOf (grammar Common true (λ operated name. Unit {0})) s

@@ -102,7 +102,8 @@ fault_of_variable v = record {
   message_length = length v.message;
 }
 
--- the variable v has the same index in the text s as the variable with this position and name in `template`
+-- v has the same index among the variables of the text s as the variable `name` at `position` has among those
+-- of `template`
 pub record HasIndex (g : Grammar) (s template : List ℕ) (position : ℕ) (name : List ℕ) (v : VariableAt)
     : Type 0 where
   pub index : ℕ
@@ -123,7 +124,7 @@ pub record IsUnset (g : Grammar) (unset : Missing) (s : List ℕ) (look : LookUp
   pub at_index : HasIndex g s template position name v
   pub says : text_value g.forms unset is_template.items look ≡ Err v.name
 
--- the text s isn't expanded for this reason; if the reason is out of memory, nothing is stated
+-- the error is the reason why the text s isn't expanded; about `OutOfMemory` nothing is stated
 abbrev pub IsRefusal : Grammar → Missing → List ℕ → LookUp → StyleError → Type 0
 IsRefusal g unset s look (style_error.Refused first) = IsRefusalOf g s (error.Refused first)
 IsRefusal g unset s look (style_error.Unset v) = IsUnset g unset s look (variable_of v)
@@ -135,7 +136,7 @@ IsFaultOf g unset s look fault =
     ((first : FormAt) × IsRefusalOf g s (error.Refused first) × (fault ≡ fault_of_form first))
     ⊎ ((v : VariableAt) × IsUnset g unset s look v × (fault ≡ fault_of_variable v))
 
--- x is the output of the text s, expanded by a style with these pairs
+-- x is the output of the text s, expanded by `style` with the pairs `given`
 abbrev pub GivenByStyle : StyleRecord → List Pair → List ℕ → List ℕ → Type 0
 GivenByStyle style given s x = (choices : Choices) × AreOf style choices
     × IsGiven (grammar_of choices style.only.now given) choices.missing s (pair_value given) x
@@ -144,7 +145,7 @@ GivenByStyle style given s x = (choices : Choices) × AreOf style choices
 abbrev pub TextGivenByStyle : StyleRecord → List Pair → List ℕ → List ℕ → Type 0
 TextGivenByStyle style given s x = IsUtf8 x × GivenByStyle style given s x
 
--- the record is that of the fault for which the text s is refused by a style with these pairs
+-- the text s, expanded by `style` with the pairs `given`, is refused for the fault with the record `fault`
 abbrev pub RefusedByStyle : StyleRecord → List Pair → List ℕ → StyleFault → Type 0
 RefusedByStyle style given s fault = (choices : Choices) × AreOf style choices
     × IsFaultOf (grammar_of choices style.only.now given) choices.missing s (pair_value given) fault
@@ -166,10 +167,10 @@ IsIn s (style_error.Refused first) = first.position < length s
 IsIn s (style_error.Unset v) = end_of (variable_of v) ≤ length s
 IsIn s (style_error.OutOfMemory e) = Unit {0}
 
--- the effect of a call with this result on the record of a fault
+-- the effect that a call with the result `result` has on the record of a fault
 pub record SetsStyleFault (style : StyleRecord) (given : List Pair) (s : List ℕ) (result : ℕ)
     (old new : StyleFault) : Type 0 where
-  -- the record is that of the refusal, and lies in the text
+  -- the record is that of the refusal, and its spans lie in the text
   pub refused : result ≡ REFUSED → RefusedByStyle style given s new
   pub within : result ≡ REFUSED → LiesIn s new
   -- unless the text is refused, the record is unchanged

@@ -1,4 +1,4 @@
--- Texts that describe the fault of a source, and sources and values that are UTF-8.
+-- Texts that describe a source's fault, and tests whether sources and values are UTF-8.
 use Rattle.std.specs.Prelude.{◌≡◌, ℕ, Bool, ◌&&◌, List, [], Some}
 use Rattle.std.specs.List.{list_all}
 use Rattle.std.specs.Str.{is_utf8}

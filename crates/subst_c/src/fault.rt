@@ -22,7 +22,7 @@ pub const UNEXPECTED_CHARACTER: u32 = 3;
 /// A placeholder that is never closed.
 pub const MISSING_CLOSING_BRACE: u32 = 4;
 
-/// A needed variable that no pair names.
+/// A needed variable for which there is no pair.
 pub const NO_SUCH_VARIABLE: u32 = 5;
 
 /// A source that isn't a document of the call's format.

@@ -56,7 +56,7 @@ fn missing_of(optional: u32) -> Missing
     }
 }
 
-/// The choice of the names of pairs, in forms without an operator, such as `${NAME}`.
+/// A choice of names: those that a pair has and that no operator follows, as in `${NAME}`.
 #[derive(Clone, Copy)]
 pub struct PlainNames<'n, 'p> {
     pub pairs: &'n Pairs<'p>,

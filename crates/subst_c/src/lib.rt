@@ -178,7 +178,7 @@ pub extern "C" fn subst_text_into(
     ensures not_text { result ≡ NOT_UTF8 → are_texts source.now pairs.now ≡ false }
     ensures others { result ≢ NOT_UTF8 → IsOther result }
 
-    // The buffer changes only if the source is a sentence, and the source and all values are UTF-8.
+    // The buffer changes only if the source is a sentence and both the source and all values are UTF-8.
     ensures buffer_kept { ¬ (IsSentence source.now) → buffer.new ≡ buffer.old }
     ensures buffer_kept_of_no_text { result ≡ NOT_UTF8 → buffer.new ≡ buffer.old }
 {
@@ -375,7 +375,7 @@ pub extern "C" fn subst_variables(
 }
 
 /// Writes to the front of the buffer, like `subst_variables`, a record for each variable that `source` needs
-/// and that no pair has. Each record has the kind `REQUIRED`. The result is done even if variables are
+/// and that no pair has. Each record has the kind `REQUIRED`. The result is `DONE` even if variables are
 /// missing. Variables in a default that isn't used aren't needed.
 #[unsafe(no_mangle)]
 pub extern "C" fn subst_missing(
@@ -386,7 +386,7 @@ pub extern "C" fn subst_missing(
     needed: &mut usize,
     fault: &mut FaultRecord,
 ) -> u32
-    // As for `subst_variables`, for the missing variables of the source's tree.
+    // The buffer begins with the records of the missing variables of the source's tree.
     ensures buffer { FillsBuffer
         (HasRecords source.now (λ t. all_missing 0 t (pair_value pairs.now)))
         result needed.old needed.new buffer.old buffer.new }
@@ -433,8 +433,8 @@ pub extern "C" fn subst_fault_text(
 }
 
 /// Writes to the front of the buffer the text of the fault that `subst_json` reports for `source` and
-/// `pairs`. The text has the path of the refused string and its fault; if the source isn't JSON, it is the
-/// JSON reader's message. If there is no fault, the text is empty.
+/// `pairs`. The text has the path of the refused string and the string's fault. If the source isn't JSON, the
+/// text is the JSON reader's message. If there is no fault, the text is empty.
 #[unsafe(no_mangle)]
 pub extern "C" fn subst_json_fault_text(
     alloc: Global,

@@ -111,6 +111,7 @@ impl StyleRecord<'_> {
 }
 
 /// The names that are variables by `choice`: all, the names of `only`, or the names with a value in `given`.
+/// With [`Choice::Known`], all names in forms with an operator are variables too.
 #[derive(Drop)]
 struct ChosenNames<'o, 'g> {
     choice: Choice,
@@ -280,7 +281,7 @@ fn unset_variable<'t, N: Names>(
     Ok(None)
 }
 
-/// Returns whether `variable` is `missing`: whether positions and names are equal.
+/// Returns whether `variable` and `missing` have the same position and the same name.
 fn is_missing(variable: &Variable, missing: &NoSuchVariable) -> bool
     ensures { IsTrue result → (variable.now.position ≡ missing.now.position)
         × (variable.now.name.now ≡ string_bytes missing.now.name) }

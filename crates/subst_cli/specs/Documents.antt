@@ -143,7 +143,8 @@ format_of (finders.Json finder) = Json
 format_of finders.Toml = Toml
 format_of (finders.Yaml finder) = Yaml
 
--- the finder can be used for the document `text`; a finder of YAML was created for `text`
+-- the finder can be used for the document `text`: it is for JSON or TOML, or it is for YAML and was created
+-- for `text`
 abbrev pub FindsIn : List ℕ → Finder → Type 0
 FindsIn text (finders.Json finder) = ⊤
 FindsIn text finders.Toml = ⊤

@@ -43,8 +43,8 @@ abbrev pub IsValueOf : LookUp → (s : List ℕ) → Given → Type 0
 IsValueOf look s given = (items : text.Text) × text.IsText shell false items [] × (s ≡ text.spelling items)
     × (text.text_value Shell missing.Nothing items look ≡ given)
 
--- the value of a line's variable `name`: that of the name's first entry in `above`, or else of its last entry
--- in `before`
+-- the value of the variable `name` where a line uses it: that of the name's first entry in `above`, or else
+-- of its last entry in `before`
 abbrev pub look_up_after : (above before : List Entry) → LookUp
 look_up_after above before name = option_or (look_up_in above name) (look_up_in (reverse before) name)
 

@@ -72,13 +72,13 @@ abbrev pub entries_of_pairs : List (String Global × String Global) → List Ent
 entries_of_pairs pairs =
     map (λ pair. record { name = string_bytes pair.0; value = Some (string_bytes pair.1) }) pairs
 
--- The entries of higher precedence than .env files, the highest first: those of options and then of values
--- files, each from the last to the first, and then the environment's.
+-- The entries of higher precedence than .env files, the highest first: those of options, then those of values
+-- files, then those of the environment. The entries of options and of values files are in reverse order.
 abbrev pub above : (set lines environment : List Entry) → List Entry
 above set lines environment = reverse (lines ++ set) ++ environment
 
--- All entries, the highest precedence first: `above`, those of .env files from the last to the first, and the
--- defaults from the last to the first.
+-- All entries, the highest precedence first: the entries `above`, then those of .env files, then the
+-- defaults. The entries of .env files and the defaults are in reverse order.
 abbrev pub in_order : (above dotenv defaults : List Entry) → List Entry
 in_order above dotenv defaults = above ++ reverse dotenv ++ reverse defaults
 
@@ -86,7 +86,8 @@ in_order above dotenv defaults = above ++ reverse dotenv ++ reverse defaults
 abbrev pub is_empty : Entry → Bool
 is_empty entry = option_map_or (λ value. length value == 0) entry.value false
 
--- a byte of a shell's word in single quotes: the quotes end before a single quote, and begin again after it
+-- the spelling of a byte in a shell's word in single quotes; a single quote is escaped outside the quotes,
+-- which end before it and begin again after it
 abbrev pub word_byte : ℕ → List ℕ
 word_byte b = if b == 39 then 39 ∷ 92 ∷ 39 ∷ 39 ∷ [] else b ∷ []
 

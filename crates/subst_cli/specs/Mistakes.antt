@@ -16,7 +16,7 @@ use Rattle.subst_cli.specs.declared.document.mistake.Part.TheVariants.{Outside, 
 use Rattle.subst_cli.specs.declared.document.mistake.TheConstants.{LEVELS, TOML_LEVELS}
 use Rattle.subst_cli.specs.declared.fault.Cause.TheVariants as cause
 
--- the part of JSON that the byte after `b` is in, if `b` is in this part
+-- the part of JSON that the byte after `b` is in; the first argument is the part that `b` itself is in
 abbrev pub part_after : Part → ℕ → Part
 part_after Outside b = if b == 34 then Inside else Outside
 part_after Inside b = if b == 34 then Outside else if b == 92 then Escaped else Inside
@@ -48,7 +48,8 @@ abbrev pub last_of : ℕ → List ℕ → ℕ
 last_of last [] = last
 last_of last (b ∷ bs) = last_of (if is_ascii_whitespace b then last else b) bs
 
--- the half of a surrogate pair whose escape has this second digit, if any
+-- the half of a surrogate pair, by the second digit `b` of its escape (the 8 of `\ud800`); none if neither
+-- half's escape has this second digit
 abbrev pub half_by : ℕ → Option SurrogateHalf
 half_by b =
     if is_in_range 56 57 b || (is_in_range 97 98 b || is_in_range 65 66 b) then Some First
@@ -65,14 +66,14 @@ is_surrogate_at bs = (get_or bs 0 0 == 92) && ((get_or bs 1 0 == 117)
 abbrev pub half_at : List ℕ → Option SurrogateHalf
 half_at bs = if is_surrogate_at bs then half_by (get_or bs 3 0) else None
 
--- the half of a surrogate pair, if there is one, is the second half
+-- there is a half of a surrogate pair, and it is the second half
 abbrev pub is_second : Option SurrogateHalf → Bool
 is_second None = false
 is_second (Some First) = false
 is_second (Some Second) = true
 
--- the half of a surrogate pair, if there is one, is without the other half; `next` is the half whose escape
--- follows, if any
+-- there is a half of a surrogate pair, and it lacks the other half: it is a second half, or no second half
+-- follows; `next` is the half whose escape follows, if any
 abbrev pub is_without : Option SurrogateHalf → Option SurrogateHalf → Bool
 is_without None next = false
 is_without (Some First) next = not (is_second next)
@@ -119,7 +120,7 @@ mistake_in before rest is_document =
     else if first == 34 then option_map (λ half. (LoneSurrogate, length before + half)) (lone_at 0 1 rest)
     else None
 
--- the mistake `TooDeep` at the bracket, or this mistake if there is no bracket
+-- the mistake `TooDeep` at the offset of the bracket, or `mistake` if there is no bracket
 abbrev pub or_bracket : Option (Mistake × ℕ) → Option ℕ → Option (Mistake × ℕ)
 or_bracket mistake None = mistake
 or_bracket mistake (Some bracket) = Some (TooDeep LEVELS, bracket)
@@ -137,7 +138,8 @@ mistake_of text stop =
     if bytes_eq (string_bytes stop.message) (codes "invalid JSON")
     then mistake_at before (drop stop.offset text) (is_some (document before)) else None
 
--- the reason why a text isn't JSON: this mistake, or else the message of the reader's stop
+-- the reason why a text isn't JSON: the given mistake if there is one, or else the message of the reader's
+-- stop
 abbrev pub or_message : ReaderStop → Option (Mistake × ℕ) → Unfilled
 or_message stop (Some (mistake, offset)) = Unread (record { start = offset; end = offset }) (cause.Mistake mistake)
 or_message stop None =

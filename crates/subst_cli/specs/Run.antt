@@ -39,7 +39,7 @@ entries_for options read = map (escaped options.escape) (kept_for options
     (in_order (above_for options read) (entries_of read.dotenv.items)
     (entries_of read.defaults.items ++ entries_of_pairs options.defaults.items)))
 
--- `it` is a fault in this format of `s`, the bytes of a source that are filled in
+-- `it` is a fault of `s`, in this format; `s` are the bytes of a source that are filled in
 abbrev pub IsFaultIn : InputFormat → Placeholders → List Entry → List ℕ → Fault → Type 0
 IsFaultIn Text placeholders entries s it = IsNoText s it ⊎ IsFaultOf placeholders entries s it
 IsFaultIn Bytes placeholders entries s it = IsFaultOf placeholders entries s it

@@ -12,8 +12,8 @@ use Rattle.subst_cli.specs.declared.fault.Fault.{Fault}
 abbrev pub FillsFrom : StringFiller → List Entry → Type 0
 FillsFrom filler entries = IsSomeAnd filler.variables (λ variables. AreVariablesOf variables.now entries)
 
--- the filler's answer for the string `s` is right: the output `x` is that of `s`, or `s` itself if the filler
--- has no variables; for a refusal, `s` has a fault
+-- the filler's answer for the string `s` is right: `s` expands to the output `x`, or `x` is `s` itself if the
+-- filler has no variables; for a refusal, `s` has a fault
 abbrev pub AnswersBy : StringFiller → List ℕ → Answer → Type 0
 AnswersBy filler s (Gives x) = IfNone filler.variables (x ≡ s)
     × ((entries : List Entry) → FillsFrom filler entries → GivesFor filler.placeholders.now entries s x)
@@ -24,8 +24,8 @@ AnswersBy filler s (Refuses f) =
 abbrev pub GivesSome : StringFiller → List ℕ → Type 0
 GivesSome filler s = (x : List ℕ) × AnswersBy filler s (Gives x)
 
--- `faults` is empty and `IsFine` holds; or `IsSo` holds for one of `faults`, with the entries of the filler's
--- variables
+-- `faults` is empty and `IsFine` holds; or `IsSo` holds for the entries of the filler's variables and one of
+-- `faults`
 abbrev pub AreFaults : StringFiller → Type 0 → (List Entry → Fault → Type 0) → List Fault → Type 0
 AreFaults filler IsFine IsSo faults = ((faults ≡ []) × IsFine)
     ⊎ ((entries : List Entry) → FillsFrom filler entries → Any (IsSo entries) faults)

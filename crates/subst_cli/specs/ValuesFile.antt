@@ -90,7 +90,7 @@ abbrev pub with_file : Option (List Entry) → Option (List Entry) → Option (L
 with_file None later = None
 with_file (Some entries) later = before entries later
 
--- the bytes of a file as a value: without their last line end, or all
+-- the bytes of a file as a value: for `Removed` without their last line end, for `Kept` unchanged
 abbrev pub value_bytes : LineEnd → List ℕ → List ℕ
 value_bytes Removed bytes = without_line_end bytes
 value_bytes Kept bytes = bytes
@@ -100,7 +100,8 @@ abbrev pub value_of : List ℕ → List ℕ → Option (List Entry)
 value_of name bytes =
     if is_utf8 bytes then Some (record { name = name; value = Some bytes } ∷ []) else None
 
--- the entries of a file, by its lines or as a single value; none if the file is refused
+-- the entries of a file: those of its lines, or a single entry with the file as its value; none if the file
+-- is refused
 abbrev pub values_in : ValuesSource → Option (List Entry)
 values_in (Lines source) = values_of source.bytes.items
 values_in (Value name line_end source) =

@@ -141,7 +141,8 @@ fn add_lines(
     Ok(None)
 }
 
-/// Appends the setting of a text's first line, if any. Returns the text after the line, or why it is refused.
+/// Appends the setting of a text's first line, if any. Returns the text after the line, or the cause of the
+/// line's refusal.
 ///
 /// # Errors
 ///
@@ -184,7 +185,7 @@ fn add_line<'t>(
     }
 }
 
-/// A collector of hints at the unset variables of a file.
+/// A collector of hints for the unset variables of a file.
 #[derive(Drop)]
 struct Hints<'s, 'h> {
     /// The name of the file.

@@ -1,4 +1,5 @@
-//! Excerpts: the line of a source with a fault, underlined. A long line is cut around the fault.
+//! Excerpts: the line of a source in which a fault begins, with the fault underlined. A long line is cut
+//! around the fault.
 
 use crate::terminal::{are_printable, printable};
 use std::alloc::{AllocError, Global};
@@ -9,11 +10,11 @@ use unicode_width::{UnicodeWidthChar, UnicodeWidthStr};
 /// The widest excerpt, in columns. Longer lines are cut around the fault.
 const WIDEST: usize = 60;
 
-/// The most bytes of a line that are read before a fault, and from the fault on.
+/// The most bytes of a line that are read on each side of a fault's start.
 const AROUND: usize = 512;
 
-/// The most bytes read before a fault, and from the fault on, if each byte takes a column. This number
-/// exceeds [`WIDEST`].
+/// The most bytes of a line that are read on each side of a fault's start, if each byte takes a column. This
+/// number exceeds [`WIDEST`].
 const NEAR: usize = 64;
 
 /// The mark that replaces the part of a text that is cut off.
@@ -113,8 +114,8 @@ impl Piece {
         columns(&self.text).saturating_add(usize::from(self.is_cut))
     }
 
-    /// Returns the limit of the text's width for a piece of at most `columns` columns, and whether that piece
-    /// is cut.
+    /// Returns how to fit the piece into `columns` columns: the limit of its text's width, and whether to add
+    /// the mark of a cut.
     fn fit(&self, columns: usize) -> (usize, bool) {
         if self.width() <= columns {
             (columns, self.is_cut)
@@ -167,7 +168,7 @@ fn columns(text: &str) -> usize {
     }
 }
 
-/// Returns the longest end of a text that is at most `columns` wide.
+/// Returns the end of a text, as far as it fits in `columns` columns.
 fn last_columns(text: &str, columns: usize) -> &str {
     if text.is_ascii() {
         return text.get(text.len().saturating_sub(columns)..).unwrap_or("");
@@ -194,7 +195,7 @@ pub(crate) fn cut(alloc: Global, text: String, columns: usize) -> Result<String,
     }
 }
 
-/// Returns the longest start of a text that is at most `columns` wide.
+/// Returns the start of a text, as far as it fits in `columns` columns.
 fn first_columns(text: &str, columns: usize) -> &str {
     if text.is_ascii() {
         return text.get(..columns.min(text.len())).unwrap_or("");

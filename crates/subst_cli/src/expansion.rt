@@ -220,7 +220,7 @@ impl<'r, 'w, 'v> Expander<'r, 'w, 'v> {
         }
     }
 
-    /// Returns whether a source is known to be its own output without expanding it.
+    /// Returns whether a source needn't be expanded because it is known to be its own output.
     pub fn is_its_own_output(&self, source: &Source) -> bool
         ensures itself { IsTrue result → (entries : List SpecEntry)
             → IsSourceOutput self.now.formats self.now.placeholders.now entries source.now
@@ -229,7 +229,7 @@ impl<'r, 'w, 'v> Expander<'r, 'w, 'v> {
         self.are_unchanged(self.formats.format_of(&source.path), &source.bytes)
     }
 
-    /// Returns whether bytes in a format are known to be their own output without expanding them.
+    /// Returns whether bytes in a format needn't be expanded because they are known to be their own output.
     fn are_unchanged(&self, format: InputFormat, source: &[u8]) -> bool
         ensures itself { IsTrue result → (entries : List SpecEntry)
             → IsOutput format self.now.placeholders.now entries source.now source.now }

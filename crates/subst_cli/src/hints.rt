@@ -247,8 +247,8 @@ fn ends_with_escape(bytes: &[u8]) -> bool {
     backslashes % 2 == 1
 }
 
-/// Splits a `${NAME` off the end of bytes. Returns the bytes before it and the name, or `None` if the bytes
-/// end otherwise.
+/// Splits a `${NAME` off the end of bytes. Returns the bytes before the dollar, and the name. Returns `None`
+/// if the bytes don't end in `${NAME`.
 fn name_before(bytes: &[u8]) -> Option<(&[u8], &[u8])> {
     let before = bytes
         .iter()

@@ -14,7 +14,7 @@ use std::alloc::{AllocError, Global};
 use std::collections::HashMap;
 use subst_filter_lib::values::Values;
 
-/// The variables of a run from files and the environment, by kind.
+/// The variables that a run takes from files and the environment, by origin.
 #[derive(Drop)]
 pub struct Layers {
     /// The variables of values files, in the order of files and lines.

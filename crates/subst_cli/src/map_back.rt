@@ -253,8 +253,8 @@ fn unset(
     })
 }
 
-/// Returns a variable's message, escaped for a terminal. The message is expanded first, unless that is
-/// refused.
+/// Returns a variable's message, escaped for a terminal. The message is expanded first, unless its expansion
+/// is refused.
 ///
 /// # Errors
 ///

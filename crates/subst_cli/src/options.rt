@@ -52,7 +52,7 @@ or device failed, 4 out of memory. See subst(1) for more.";
 pub enum InputFormat {
     /// Text, in UTF-8.
     Text,
-    /// Bytes.
+    /// Bytes, which needn't be UTF-8.
     Bytes,
     /// A document, whose strings are filled in.
     Document(Format),
@@ -223,7 +223,8 @@ impl<'w> Options<'w> {
         in_arguments && in_files && !self.environment
     }
 
-    /// Refuses an option that needs variables if no option sets variables, unless `action` lists names.
+    /// Refuses an option that needs variables. It is allowed if another option sets variables, or if the
+    /// action lists names.
     fn check_variables(&self, alloc: Global, matches: &ArgMatches<'_>) -> Result<(), Error> {
         let Some(option) = first_flag(matches, &NEEDY) else {
             return Ok(());

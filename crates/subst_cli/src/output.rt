@@ -58,7 +58,8 @@ pub(crate) fn mode_of_new(rt: &HostRuntime, template: &str) -> u32 {
     }
 }
 
-/// Writes bytes to the open stream that a path leads to, or else to a file, like [`replace`].
+/// Writes bytes to the open stream that a path leads to, or else to the file at that path. A file is written
+/// by [`replace`].
 ///
 /// # Errors
 ///
@@ -112,7 +113,7 @@ fn write_through(rt: &HostRuntime, path: &str, at_end: bool, bytes: &[u8]) -> io
     file.write_all(bytes)
 }
 
-/// Returns the first path that is tried for the file that replaces the one at `path`.
+/// Returns the path at which [`replace`] first tries to create the replacement of the file at `path`.
 ///
 /// # Errors
 ///
@@ -169,7 +170,7 @@ fn replace_by_new(
     let (new, file) = create_beside(rt, path, mode)?;
     let outcome = finish(file, old, bytes).and_then(|()| fs::rename(rt, new.as_path(), path));
     if outcome.is_err() {
-        // The first failure is reported, and not this one.
+        // If the removal fails too, only the first failure is reported.
         let _ = fs::remove_file(rt, new.as_path());
     }
     outcome

@@ -107,8 +107,7 @@ fn chosen_template(
     }
 }
 
-/// Returns a fault for each refused form of a text: for `first`, and for the second and all later forms in
-/// `all`.
+/// Returns a fault for each refused form of a text. `first` takes the place of the first form in `all`.
 ///
 /// # Errors
 ///
@@ -237,8 +236,8 @@ fn unreadable(alloc: Global, position: usize, name: &str) -> Result<Fault, Alloc
 }
 
 /// Returns the faults of `refusal` and those in `besides`, in the order of their positions. `besides` has the
-/// faults of variables whose values aren't UTF-8. A variable that is missing for that reason has only one
-/// fault.
+/// faults of variables whose values aren't UTF-8. If `refusal` reports such a variable as missing too, the
+/// variable still has only one fault.
 ///
 /// # Errors
 ///
@@ -269,7 +268,7 @@ fn all_faults(
     Ok(faults)
 }
 
-/// Returns whether an error is a missing variable whose value isn't UTF-8.
+/// Returns whether an error reports a variable as missing because its value isn't UTF-8.
 fn is_unreadable(e: &Error, forms: Option<Forms>, variables: &Variables<'_>) -> bool
     ensures { result ≡ lacks_unreadable forms variables.now e.now }
 {

@@ -53,7 +53,7 @@ fn begins_with_one(name: &[u8], starts: &[&str]) -> bool
     false
 }
 
-/// Returns whether a name begins with a start.
+/// Returns whether a name begins with `start`.
 fn begins_with(name: &[u8], start: &str) -> bool
     ensures { IsTrue result ↔ ((rest : List ℕ) × (name.now ≡ start.now ++ rest)) }
 {

@@ -125,7 +125,7 @@ impl<'r> Report<'r> {
         Ok(())
     }
 
-    /// Prints a hint, if there is one, and at most one in a run. The exit status is unchanged.
+    /// Prints a hint if there is one, unless an earlier call has printed one. The exit status is unchanged.
     pub fn hint(&mut self, hint: Option<&str>)
         ensures { self.new.worst ≡ self.old.worst }
     {
@@ -154,7 +154,7 @@ impl<'r> Report<'r> {
         Ok(())
     }
 
-    /// Reports out of memory for a file or the program of this name, without allocating.
+    /// Reports out of memory, without allocating. `name` is the name of a file or of the program.
     pub fn out_of_memory(&mut self, name: &str)
         ensures { self.new.worst ≡ Severity.Exhaustion }
     {

@@ -36,8 +36,8 @@ impl Template {
     }
 }
 
-/// Returns the templates of a path, sorted by name. For a directory, these are the files whose paths end in
-/// `suffix`, in it and in its subdirectories. Otherwise, the path itself is the only template. Names are
+/// Returns the templates of a path, sorted by name. In a directory and its subdirectories, each file whose
+/// path ends in `suffix` is a template. A path that isn't a directory is itself the only template. Names are
 /// without the suffix.
 ///
 /// # Errors

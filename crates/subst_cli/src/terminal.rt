@@ -57,7 +57,7 @@ fn is_hidden(c: char) -> bool {
         || matches!(c, '\u{2028}'..='\u{202e}' | '\u{fff9}'..='\u{fffb}')
 }
 
-/// Returns whether a character is ignorable by default: it is invisible if it isn't supported.
+/// Returns whether a character is default-ignorable in Unicode: invisible where it isn't supported.
 fn is_ignorable(c: char) -> bool {
     matches!(
         c,

@@ -12,7 +12,7 @@ use std::alloc::{AllocError, Global};
 /// The byte order mark in UTF-8.
 const BYTE_ORDER_MARK: &[u8] = b"\xEF\xBB\xBF";
 
-/// Splits bytes into the byte order mark that they begin with and the rest. Without a mark, the first part is
+/// Splits bytes into the byte order mark at their start, and the rest. Without a mark, the first part is
 /// empty.
 pub(crate) fn split_mark(bytes: &[u8]) -> (&[u8], &[u8])
     ensures mark { result.0.now ≡ mark_in bytes.now }

@@ -12,7 +12,7 @@ is_other (Kept n) = false
 is_other (Text x) = true
 is_other (Inside' shape all) = true
 
--- a change in a list, limited to its first value: `Kept n` becomes `Kept 0`
+-- a change for one value alone: `Kept n`, which keeps n more values, becomes `Kept 0`
 abbrev pub one : Change → Change
 one (Kept n) = Kept 0
 one (Text x) = Text x
@@ -68,7 +68,7 @@ AreMade Made _ changes _ = ⊥
 abbrev pub IsUpToKept : List Change → List Change → Type 0
 IsUpToKept changes all = (n : ℕ) × (all ≡ changes ++ replicate n (Kept 0))
 
--- whether some value changes, by the changes found so far
+-- whether the changes found so far change some value
 abbrev any_other : List Change → Bool
 any_other [] = false
 any_other (change ∷ changes) = true
@@ -76,7 +76,8 @@ any_other (change ∷ changes) = true
 abbrev pub has_other : FoundChanges → Bool
 has_other found = any_other found.changes.items
 
--- the changes that a walk has found so far, and those that it has yet to make, one for each value
+-- the changes, one for each value, that a walk has found so far; `remaining_of` has those that a second walk
+-- has yet to make
 abbrev pub found_so_far : FoundChanges → List Change
 found_so_far found = slots found.changes.items ++ replicate found.kept (Kept 0)
 

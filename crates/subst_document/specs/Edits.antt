@@ -1,4 +1,4 @@
--- Texts with their strings filled in, in some format. `IsToken` holds of a part of a text and the string that
+-- Texts of some format, with their strings filled in. `IsToken` holds of a part of a text and the string that
 -- this part spells. `IsPart` holds of a token, a piece of the token, and the part of the string that this
 -- piece spells. `Fits` holds of a token and a value that the token's kind can spell, and `Becomes` of a
 -- string and its value.

@@ -1,4 +1,4 @@
--- Spans of several ranges of one string, in order in its token.
+-- The spans that several ranges of one string have in its token, in order.
 use Rattle.std.specs.Prelude.{◌≡◌, ℕ, List, [], ◌∷◌}
 use Rattle.std.specs.declared.ops.Range.{Range}
 use Rattle.subst_document.specs.declared.pieces.Position.{Position}

@@ -10,7 +10,7 @@ use Rattle.subst_document.specs.Paths.{PathStep, Refusal}
 use Rattle.subst_document.specs.declared.edits.RefusalAt.{RefusalAt}
 use Rattle.subst_document.specs.declared.edits.StringAt.{StringAt}
 
--- the `Refusal` for `it`, a refusal of the code, where `steps` converts a path of the code
+-- the code's refusal `it` as a `Refusal`; `steps` converts its path
 abbrev pub refusal_at : {P : Type 0} → (P → List PathStep) → RefusalAt P → Refusal
 refusal_at steps it = record {
   path = steps it.path;

@@ -22,8 +22,8 @@ abbrev pub StatesChange : (List ℕ → List ℕ → Type 0) → List (List ℕ)
 StatesChange Becomes strings source output true = SomeChanges Becomes strings
 StatesChange Becomes strings source output false = AllStay Becomes strings × (output ≡ source)
 
--- `text` is the values of some of these strings, concatenated, and `list` has their indices and lengths. Each
--- other string is unchanged. The first string has the index `index`.
+-- `text` is the values of some of these strings, concatenated. `list` has the index of each such string and
+-- the length of its value. Each other string is unchanged. The first string has the index `index`.
 abbrev pub AreValues : (List ℕ → List ℕ → Type 0) → ℕ → List (List ℕ) → List ValueAt → List ℕ → Type 0
 AreValues Becomes index [] list text = (list ≡ []) × (text ≡ [])
 AreValues Becomes index (x ∷ strings) list text =

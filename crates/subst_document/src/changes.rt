@@ -22,7 +22,8 @@ pub enum Change {
     Kept(usize),
     /// The value is a string, and this string replaces it.
     Text(String),
-    /// The changes of the values in an array, object or table, in order. Values after the last one are kept.
+    /// The changes of the values in an array, object or table, in order. Values for which no change is left
+    /// are kept.
     Inside(Vec<Change>),
 }
 

@@ -219,7 +219,8 @@ fn push_both(output: &mut String, before: &str, token: &str) -> Result<(), Alloc
     output.push_str(token)
 }
 
-/// Returns `text` with `span`, or `None` if `source` doesn't spell it there or `span` begins before `from`.
+/// Returns `text` with `span`, or `None` if `span` begins before `from`, or if `source` doesn't spell `text`
+/// at `span`.
 ///
 /// # Errors
 ///

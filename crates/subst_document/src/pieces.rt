@@ -6,11 +6,11 @@ ghost use Rattle.subst_document.specs.Pieces.{ArePiecesFrom};
 use std::alloc::{AllocError, Global};
 use std::ops::Range;
 
-/// A position in the spelling of a string: a byte offset in the text, and the matching byte offset in the
+/// A position in the spelling of a string: a byte offset in the document, and the matching byte offset in the
 /// string.
 #[derive(Clone, Copy)]
 pub struct Position {
-    /// The byte offset in the text.
+    /// The byte offset in the document.
     pub place: usize,
     /// The byte offset in the string.
     pub offset: usize,
@@ -26,9 +26,9 @@ pub trait Pieces {
     // Whether the token's piece between two positions spells the part of the string between them.
     ghost is_piece: { Self → Position → Position → Type 0 };
 
-    /// Returns the position in the token, from `from` on, at which the string is spelled up to `offset`. If
-    /// `is_start`, bytes right after it that spell nothing are skipped too. Returns `None` if the piece of
-    /// the token between `from` and the position isn't read as the part of the string between them.
+    /// Returns the end of the token's piece that begins at `from` and spells the string up to `offset`. If
+    /// `is_start`, following bytes that spell nothing belong to the piece too. Returns `None` if the piece
+    /// isn't read as the part of the string between `from` and `offset`.
     fn piece_end(
         &self,
         alloc: Global,

@@ -50,13 +50,13 @@ pub(crate) fn only_placeholder(text: &str) -> Option<Range<usize>> {
 #[derive(Drop)]
 struct FoundPlaceholders {
     spans: Vec<Range<usize>>,
-    /// The open braces, outermost first: the offset of the dollar before each, or `None` without one.
+    /// For each open brace, outermost first, the offset of its `${`, or `None` for a plain `{`.
     open: Vec<Option<usize>>,
 }
 
 impl FoundPlaceholders {
-    /// Adds the placeholder or brace that `rest` begins with, or skips plain bytes. Returns the number of
-    /// bytes read. `at` is the offset of `rest` in the text.
+    /// Handles the placeholder, escape or brace that `rest` begins with, or skips plain bytes. Returns the
+    /// number of bytes read. `at` is the offset of `rest` in the text.
     fn step(&mut self, rest: &[u8], at: usize, has_escapes: bool) -> Result<usize, AllocError>
         requires { 0 < length rest.now }
         ensures { IfOk result (λ len. len ≤ length rest.now) }
@@ -172,7 +172,8 @@ fn escape_len(text: &[u8]) -> Option<usize>
     }
 }
 
-/// Returns the length of the dollar, name or `{..}` that begins `text`, or `None`. A dollar precedes `text`.
+/// Returns the length of the `$`, name or `{..}` that `text` begins with, or `None` if it begins with none.
+/// `text` follows another `$`.
 fn variable_len(text: &[u8]) -> Option<usize>
     ensures within { IfSome result (λ len. len ≤ length text.now) }
     ensures placeholder { IfSome result (λ len. IsPlaceholder (dollar ∷ take len text.now)) }
@@ -188,7 +189,8 @@ fn variable_len(text: &[u8]) -> Option<usize>
     }
 }
 
-/// Returns the index in `text` of the `}` for a `{` before `text`, or `None`. A backslash escapes a byte.
+/// Returns the index in `text` of the `}` that closes the `{` before `text`, or `None` if there is none. A
+/// backslash escapes the next byte.
 fn closing_brace(text: &[u8]) -> Option<usize>
     ensures within { IfSome result (λ at. at < length text.now) }
     ensures closes { IfSome result (λ at. slice_index text.now at ≡ 125) }
@@ -213,7 +215,8 @@ fn closing_brace(text: &[u8]) -> Option<usize>
     None
 }
 
-/// Returns the index in `text` of the `}` for a `{` before `text`, or `None`. Backslashes don't escape.
+/// Returns the index in `text` of the `}` that closes the `{` before `text`, or `None` if there is none.
+/// Backslashes don't escape.
 fn bare_closing_brace(text: &[u8]) -> Option<usize>
     ensures within { IfSome result (λ at. at < length text.now) }
     ensures closes { IfSome result (λ at. slice_index text.now at ≡ 125) }

@@ -13,7 +13,7 @@ use std::fmt::{Display, Formatter};
 use std::ops::Range;
 use subst_error::{Error, line_and_column, underline};
 
-/// The reports of a format's refused strings.
+/// A format's reports of refused strings.
 pub trait ReportFormat {
     /// A refused string of a document.
     type Refusal: Drop;
@@ -84,8 +84,9 @@ fn each_refusal<R: ReportFormat>(
     Ok(text)
 }
 
-/// Returns the report of the string at `path`, refused for `e`. The message is the path, unless that is
-/// empty, and the text of `e`. `place` is the byte range of the fault in `source`, or `None` if unknown.
+/// Returns the report of the string at `path`, refused for `e`. The message is the text of `e`, with the path
+/// before it if the path isn't empty. `place` is the byte range of the fault in `source`, or `None` if
+/// unknown.
 ///
 /// # Errors
 ///
@@ -125,8 +126,8 @@ fn text_of(alloc: Global, e: &Error) -> Result<String, AllocError>
     }
 }
 
-/// Returns `message` after the name `file`. If there is a `place`, a byte range of `source`, the line and
-/// column precede the message, and the underlined line follows it.
+/// Returns `message` after the name `file`. `place` is a byte range of `source`, or `None`. If there is a
+/// place, its line and column precede the message, and the underlined line follows.
 ///
 /// # Errors
 ///
@@ -148,7 +149,7 @@ pub fn lines(
     }
 }
 
-/// Returns `message` after `file` and the line and column of `place`, and then the underlined line.
+/// Returns `file:line:column: message`, with the line and column of `place`, and then the underlined line.
 fn positioned_lines(
     alloc: Global,
     file: &str,

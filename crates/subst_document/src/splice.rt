@@ -1,5 +1,5 @@
-//! New tokens of strings that change. If the token's kind, such as its quotes, can spell the new values, only
-//! placeholders are rewritten, and the rest of the token stays.
+//! New tokens of strings that change. If the kind of the old token, such as its quotes, can spell the new
+//! values, only placeholders are rewritten, and the rest stays.
 
 ghost use Rattle.std.specs.Prelude.{◌≡◌, ◌⊎◌, ◌++◌, ℕ, List, IfOk, IfSome, IsTrue, string_bytes};
 ghost use Rattle.subst_language.specs.Language.Several.{GivesBy};
@@ -49,7 +49,7 @@ pub enum Part<'s> {
 enum Values {
     /// The spans of the placeholders in the string, and of their values in the string's new value.
     Each(Vec<Range<usize>>, Vec<Range<usize>>),
-    /// The values of the string's parts, joined, aren't the string's value.
+    /// The outputs of the string's parts, joined, differ from the string's new value.
     Joined,
     /// Some part is refused if filled in by itself, or changes although it is no placeholder.
     Unknown,

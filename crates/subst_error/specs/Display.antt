@@ -18,7 +18,7 @@ display_of_character (Byte b) = if nat_lt b 0x80 then b ∷ [] else codes "0x" +
 abbrev pub number_escape : ℕ → List ℕ
 number_escape c = codes "\\u{" ++ (digits 16 false c ++ codes "}")
 
--- the text of an ASCII character between single quotes: the character itself, or its escape
+-- an ASCII character as it appears inside single quotes: itself, or its escape
 abbrev pub ascii_escape : ℕ → List ℕ
 ascii_escape c =
     if c == 0x00 then codes "\\0" else
@@ -46,7 +46,7 @@ IsQuotedChar c text = MatchBool (nat_lt c 0x80)
     ((text ≡ in_quotes (encode_utf8 c)) ⊎ (text ≡ in_quotes (number_escape c)))
 
 -- The text of a character or byte in single quotes, or `None` for a character that isn't ASCII. An ASCII byte
--- is quoted like its character; any other byte is `'\x`, its two digits and a quote.
+-- is quoted like its character; any other byte by its two digits, like `'\xFF'`.
 abbrev pub quoted_of : CharOrByte → Option (List ℕ)
 quoted_of (Char c) = quoted_char c
 quoted_of (Byte b) = if nat_lt b 0x80 then quoted_char b else Some (in_quotes (codes "\\x" ++ two_digits b))

@@ -12,8 +12,7 @@ pub record HasWrittenSome {W : Type 0} (took : W → List ℕ → W → Type 0) 
   pub holds : P text
   pub wrote : HasWritten took f text g
 
--- if f is plain, as `IsPlainFormatter` defines it, and r is `Ok`, g is f after f has written some text of
--- which P holds
+-- if f is a plain formatter and r is `Ok`, then g is f after f has written some text of which P holds
 abbrev pub WritesSome : {W : Type 0} → (W → List ℕ → W → Type 0) → Formatter W → Result (Unit {0}) Error
     → (List ℕ → Type 0) → Formatter W → Type 0
 WritesSome took f r P g = IsPlainFormatter f → IsOk r → HasWrittenSome took f P g

@@ -1,5 +1,5 @@
-//! Errors of the calls that append to a caller's buffer. Each borrows the name of the unset variable from the
-//! source, so an error never allocates.
+//! Errors of the calls that append to a caller's buffer. The name of an unset variable is borrowed from the
+//! source, so creating an error never allocates.
 
 ghost use Rattle.std.specs.Prelude.{◌≡◌, None, Some, IfSome, IfOk};
 ghost use Rattle.subst_error.specs.ErrorFault.{error_fault, expand_fault, expand_into_fault};
@@ -72,7 +72,7 @@ impl<'s> From<AllocError> for ExpandIntoError<'s> {
     }
 }
 
-/// An error of filling in a source into a caller's buffer.
+/// An error of parsing a source, or of expanding it into a caller's buffer.
 #[derive(Clone, Copy, Debug, PartialEq, Eq)]
 pub enum SubstituteIntoError<'s> {
     /// The source couldn't be parsed.

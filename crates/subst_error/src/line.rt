@@ -23,7 +23,8 @@ impl Error {
     }
 }
 
-/// The line of a source in which a range begins, with the line's texts before and in the range.
+/// The line in which a range of a source begins, with the line's text before the range and its text in the
+/// range.
 #[derive(Clone, Copy)]
 pub(crate) struct MarkedLine<'a> {
     /// The whole line, without its line end.
@@ -34,7 +35,8 @@ pub(crate) struct MarkedLine<'a> {
     pub(crate) marked: &'a str,
 }
 
-/// Returns the line of `source` in which `range` begins, with the line's texts before and in the range.
+/// Returns the line of `source` in which `range` begins, with the line's text before the range and its text
+/// in the range.
 pub(crate) fn marked_line(source: &str, range: Range<usize>) -> MarkedLine<'_>
     requires { IsRangeIn source.now range }
     ensures text { result.text.now ≡ line_around range.start source.now }

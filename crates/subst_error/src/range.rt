@@ -21,8 +21,9 @@ impl CharOrByte {
 }
 
 impl Error {
-    /// Returns the error's range in the source, in byte offsets. It covers an escape with its character, a
-    /// `$` or `${`, an unexpected character, an opening brace, or a name. For `OutOfMemory` it is `0..0`.
+    /// Returns the error's range in the source, in byte offsets. It covers a backslash with the character
+    /// after it, a `$` or `${`, an unexpected character, an opening brace, or a name. For `OutOfMemory` it is
+    /// `0..0`.
     ///
     /// The end of the range must fit in a `usize`, as it does for every returned error.
     pub fn source_range(&self) -> Range<usize>

@@ -1,5 +1,5 @@
--- The output of an expansion with a map whose values no contract knows. Contracts state it as the output for
--- marks as values, with marks replaced by the values that were read.
+-- The output of an expansion with a map whose values no contract knows. Contracts state it as the output when
+-- each value is a single byte, the mark, with marks replaced by the values that were read.
 use Rattle.std.specs.Prelude.{◌≡◌, ℕ, List, [], ◌∷◌, ◌++◌, Option}
 use Rattle.subst_language.specs.Calls.VariableMap.{look_up_of}
 use Rattle.subst_language.specs.Language.LookUp.{LookUp}

@@ -31,7 +31,7 @@ IfMissing result P = Unit {0}
 abbrev pub AppendsFilled : (List ℕ → Type 0) → Value → (before after : List ℕ) → Type 0
 AppendsFilled Passes v before after = (x : List ℕ) × FillsMarks Passes v x × (after ≡ before ++ x)
 
--- the fault of the source s for which an expansion stopped, or `None` if the output was full
+-- the fault for which an expansion of the source s stopped, or `None` if the output was full
 abbrev pub fault_of : Stop → List ℕ → Option Fault
 fault_of (Full e) s = None
 fault_of (stop.Missing name) s = Some (NoSuchVariable name.start (span_bytes name s))

@@ -39,8 +39,9 @@ abbrev pub StopsInParts : {V Seen W First : Type 0} → Context V Seen W First �
 StopsInParts context s stopped parts before after =
     Stops context s stopped (parts_steps parts s) before after
 
--- The outcome of writing the parts of the source s: all were written, or writing stopped within them. One
--- turn was added for each visited part, or at most as many if writing stopped.
+-- The outcome of writing the parts of the source s: all were written, or writing stopped within them. If all
+-- were written, one turn was added for each visited part. If writing stopped, at most as many turns were
+-- added.
 pub record AppendsParts {V Seen W First : Type 0} (context : Context V Seen W First) (s : List ℕ)
     (parts : List Part) (result : Result (Unit {0}) Stop) (before after : W) (turns_before turns_after : ℕ)
     : Type 0 where
@@ -97,8 +98,8 @@ abbrev pub NotStopped : State → Type 0
 NotStopped (Stopped stopped) = ⊥
 NotStopped state = Unit {0}
 
--- The outcome of writing a part, by the writer's state afterwards: the part was written, or writing stopped
--- at the part. `found` is whether the part was written and is a default whose name has a value.
+-- The outcome of writing a part, depending on the writer's state afterwards: the part was written, or writing
+-- stopped at the part. `found` is whether the part was written and is a default whose name has a value.
 abbrev pub PartWritten : {V Seen W First : Type 0} → Context V Seen W First → List ℕ → Part → W → Bool → State
     → W
     → Type 0

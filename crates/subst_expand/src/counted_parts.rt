@@ -45,7 +45,7 @@ impl<'p, O: Offset> CountedParts<'p, O> {
         counter
     }
 
-    /// Returns the part at an index and counts a turn, or `None` after the last part.
+    /// Returns the part at an index and adds a turn. After the last part, returns `None` and adds no turn.
     #[inline(always)]
     pub fn part_at(&mut self, index: usize) -> Option<Part>
         ensures part { MatchOption result (length self.old.parts ≤ index)

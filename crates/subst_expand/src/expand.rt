@@ -31,8 +31,8 @@ use std::{mem, str};
 use subst_error::{ExpandError, ExpandIntoError, NoSuchVariableRef};
 use subst_language::{Part, Span, VariableMap};
 
-/// The initial capacity of an output beyond its source's length, in bytes. Values are often longer than their
-/// placeholders.
+/// The number of bytes by which the initial capacity of an output exceeds the length of its source. Values
+/// are often longer than their placeholders.
 pub(crate) const MORE_CAPACITY: usize = 64;
 
 /// The reason why an expansion stopped.
@@ -76,8 +76,8 @@ where
         (λ look. turns.new ≤ turns.old + length (visited_parts parts.now 0 0 source.now look)) }
     ensures grown { turns.old ≤ turns.new }
 
-    // The output, even if no contract knows the values: bytes from the source, with bytes of which
-    // `R.is_read` holds as the values.
+    // The output, even if no contract knows the values: bytes from the source and, as the values, bytes of
+    // which `R.is_read` holds.
     ensures filled { IfOk result (λ output. FillsMarks R.is_read
         (parts_value parts.now source.now (marks_of (M.look_up variables.now))) output.items) }
 

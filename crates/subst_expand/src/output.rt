@@ -7,8 +7,8 @@ use std::alloc::AllocError;
 
 /// An output to which bytes are appended.
 ///
-/// Contracts see three ghost members: `holds` relates an output, its first state and its bytes, `len` is the
-/// number of bytes, and `capacity` is the capacity in bytes.
+/// Contracts see an output by its ghost members. `holds` relates an output, its first state (of type `First`)
+/// and its bytes. `len` is the number of bytes, and `capacity` is the capacity in bytes.
 pub trait Output {
     ghost First: { Type 0 };
 

@@ -7,7 +7,7 @@ ghost use Rattle.subst_language.specs.Parts.Sink.{FitsBelow};
 
 use subst_language::{Part, Span};
 
-/// A type for the offsets and indexes in parts. It has the numbers below `limit`.
+/// A type for the offsets and indexes in parts. It can hold each number below `limit`.
 pub trait Offset: Copy {
     ghost value: { Self → ℕ };
 

@@ -39,7 +39,8 @@ impl<'a> Program<'a> {
         }
     }
 
-    /// Runs the program, and expects this end: status, output and standard error, separated by bars.
+    /// Runs the program, and expects its end to be `expected`: status, output and standard error, separated
+    /// by bars.
     fn expect(&self, alloc: Global, expected: &str) -> Result<(), Fail> {
         let actual = self.end(alloc)?;
         if actual.as_str() == expected {
@@ -128,7 +129,7 @@ fn variables_are_filled_in_where_the_task_takes_the_source(rt: HostRuntime) -> R
     expect_ends(rt.alloc(), rows)
 }
 
-/// Expects a program with these arguments, over this source, to print this fault and its highlighting.
+/// Expects a program with the arguments `line`, over `source`, to print `fault` and its highlighting `lines`.
 fn expect_refusal<'a>(
     alloc: Global,
     line: &'a [&'a str],
@@ -175,8 +176,8 @@ fn missing_variable_of_a_source_is_printed(rt: HostRuntime) -> Result<(), Fail> 
     Ok(())
 }
 
-/// Expects each task to have this end if these calls of its reader and writer fail. Without failures, the
-/// output of each task is `a1`.
+/// Expects each task to have the end `expected` if its reader fails as `read` and its writer as `write`.
+/// Without failures, the output of each task is `a1`.
 fn expect_failure(alloc: Global, read: Fault, write: Fault, expected: &str) -> Result<(), Fail> {
     let lines: [&[&str]; 3] = [&["bytes", "A=1"], &["text", "A=1"], &["env"]];
     for line in lines {

@@ -1,5 +1,5 @@
-//! Helpers for tests of runs. The source of a run is read one byte per call, and its end is described in a
-//! text.
+//! Helpers for tests of runs. The source of a run is read one byte per call, and the end of the run is
+//! described in a text.
 
 use std::alloc::{AllocError, Global};
 use std::test::Fail;
@@ -104,7 +104,8 @@ fn end_text(alloc: Global, ended: &Ended, drip: &Drip) -> Result<String, AllocEr
     }
 }
 
-/// Runs `call` over the source of each row with the variables of the row, and expects the row's end.
+/// Runs `call` over the source of each row with the variables of the row, and expects each run to end as its
+/// row describes.
 pub fn expect_runs(alloc: Global, call: Call, rows: &[(&str, &str, &str)]) -> Result<(), Fail> {
     for &(source, pairs, expected) in rows {
         Run::new(call, source.as_bytes(), pairs).expect(alloc, expected)?;
@@ -112,7 +113,8 @@ pub fn expect_runs(alloc: Global, call: Call, rows: &[(&str, &str, &str)]) -> Re
     Ok(())
 }
 
-/// Runs over the text of each row without variables, and expects the row's end.
+/// Runs `run_text` over the text of each row without variables, and expects each run to end as its row
+/// describes.
 pub fn expect_texts(alloc: Global, rows: &[(&str, &str)]) -> Result<(), Fail> {
     for &(source, expected) in rows {
         Run::new(Call::RunText, source.as_bytes(), "").expect(alloc, expected)?;

@@ -74,7 +74,7 @@ fn fault_with_line(alloc: Global, count: usize) -> Result<String, AllocError> {
     format!(in alloc; "{count}..{end}: MissingVariableName\n  {line}$\n  {spaces}^\n")
 }
 
-/// Expects a run over `count` letters and a dollar to have this fault.
+/// Expects a run over `count` letters and a dollar to end with the fault `expected`.
 fn expect_after(alloc: Global, count: usize, expected: &str) -> Result<(), Fail> {
     let letters = "x".repeat(alloc, count)?;
     let source = format!(in alloc; "{letters}$")?;

@@ -9,13 +9,13 @@ use Rattle.subst_filter_lib.specs.declared.run_error.RunError.{RunError}
 use Rattle.subst_filter_lib.specs.declared.run_error.RunError.TheVariants.{Read, Write, NotUtf8, Subst, OutOfMemory}
 use Rattle.subst_filter_lib.specs.declared.status.TheConstants.{REFUSED, DEVICE_FAILED, OUT_OF_MEMORY}
 
--- the error of a read is right: a failed read, and the input has `failed`; or out of memory
+-- the error of a read is right: `OutOfMemory`, or `Read` if the input has failed; `failed` is whether it has
 abbrev pub IsReadFault : Bool → RunError → Type 0
 IsReadFault failed Read = failed ≡ true
 IsReadFault failed OutOfMemory = ⊤
 IsReadFault failed _ = ⊥
 
--- the error of a write is right: a failed write, and the output has `failed`
+-- the error of a write is right: `Write`, and the output has failed; `failed` is whether it has
 abbrev pub IsWriteFault : Bool → RunError → Type 0
 IsWriteFault failed Write = failed ≡ true
 IsWriteFault failed _ = ⊥

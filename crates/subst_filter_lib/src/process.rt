@@ -17,8 +17,8 @@ use std::process::ExitCode;
 use std::{env, io};
 
 /// Runs the program with the arguments of its command line, its environment and its standard streams. Returns
-/// the exit status of [`run_program`]. If the arguments or the environment can't be read, returns
-/// [`RunError::status`] of that error instead. The environment is read only if the sole argument is `env`.
+/// the exit status of [`run_program`]. If reading the arguments or the environment fails, returns the
+/// [`RunError::status`] of the error instead. The environment is read only if the sole argument is `env`.
 pub fn run(rt: &HostRuntime) -> ExitCode
     ensures statuses { exit_status result ≤ OUT_OF_MEMORY }
 {
@@ -69,7 +69,8 @@ fn pairs(rt: &HostRuntime, arguments: &[String]) -> Result<Vec<(String, String)>
     Ok(pairs)
 }
 
-/// Returns the program's error if reading its arguments failed with `e`: out of memory, or a failed read.
+/// Converts the error `e` of reading the arguments into the program's error: out of memory, or else a failed
+/// read.
 fn error_of_arguments(e: &io::Error) -> RunError
     ensures memory { error_kind e.now ≡ ErrorKind.OutOfMemory → result ≡ RunError.OutOfMemory }
     ensures other { error_kind e.now ≢ ErrorKind.OutOfMemory → result ≡ RunError.Read }
@@ -80,7 +81,8 @@ fn error_of_arguments(e: &io::Error) -> RunError
     }
 }
 
-/// Returns the program's error if reading the environment failed with `e`: out of memory, or a failed read.
+/// Converts the error `e` of reading the environment into the program's error: out of memory, or else a
+/// failed read.
 fn error_of_pairs(e: &VarError) -> RunError
     ensures memory { e.now ≡ VarError.OutOfMemory → result ≡ RunError.OutOfMemory }
     ensures other { e.now ≢ VarError.OutOfMemory → result ≡ RunError.Read }

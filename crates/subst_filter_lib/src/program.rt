@@ -45,7 +45,7 @@ pub fn run_program<I: ByteInput, O: ByteOutput, P: ByteOutput>(
     ensures statuses { result ≤ OUT_OF_MEMORY }
     ensures wrong_arguments { (result ≡ WRONG_ARGUMENTS) ↔ (task_of arguments.now ≡ None) }
 
-    // Done: the source was read to its end, and its answer was written and nothing else.
+    // Done: the source was read to its end, and its expansion and nothing else was written.
     ensures done { result ≡ DONE → ReadsAll (I.left input.old) (I.left input.new)
         × IfSome (task_of arguments.now) (λ task. IfSome (I.left input.old) (λ source.
         Accepts task source × WritesAnswer source (look_up_of_task task arguments.now pairs.items)
@@ -54,7 +54,8 @@ pub fn run_program<I: ByteInput, O: ByteOutput, P: ByteOutput>(
     // Done: the output was flushed after the last byte was written.
     ensures flushed { result ≡ DONE → O.is_flushed output.new ≡ true }
 
-    // A failure isn't forgotten: at any status but DEVICE_FAILED no device has failed meanwhile.
+    // A failure isn't forgotten: at any status but DEVICE_FAILED, neither the input nor the output has failed
+    // during the run.
     ensures unfailed { result ≢ DEVICE_FAILED
         → (I.has_failed input.new ≡ I.has_failed input.old)
         × (O.has_failed output.new ≡ O.has_failed output.old) }
@@ -62,12 +63,12 @@ pub fn run_program<I: ByteInput, O: ByteOutput, P: ByteOutput>(
     // Wrong arguments: nothing was read.
     ensures untouched { result ≡ WRONG_ARGUMENTS → Keeps (I.left input.old) (I.left input.new) }
 
-    // Refused: the source was read to its end, and the task doesn't accept it, or its answer is a refusal.
+    // Refused: the source was read to its end. Either the task doesn't accept it, or its answer is a refusal.
     ensures refused { result ≡ REFUSED → ReadsAll (I.left input.old) (I.left input.new)
         × IfSome (task_of arguments.now) (λ task. IfSome (I.left input.old) (λ source.
         IsRefusedBy task source (look_up_of_task task arguments.now pairs.items))) }
 
-    // A device failed: nothing was written, or a prefix of the answer.
+    // A device failed: either nothing was written, or a prefix of the expansion.
     ensures failed { result ≡ DEVICE_FAILED
         → (I.has_failed input.new ≡ true) ⊎ (O.has_failed output.new ≡ true) }
     ensures prefix { result ≡ DEVICE_FAILED → Keeps (O.written output.old) (O.written output.new)
@@ -75,7 +76,7 @@ pub fn run_program<I: ByteInput, O: ByteOutput, P: ByteOutput>(
         Accepts task source × WritesPrefix source (look_up_of_task task arguments.now pairs.items)
         (O.written output.old) (O.written output.new))) }
 
-    // At any other status nothing was written.
+    // At any status but DONE and DEVICE_FAILED, nothing was written to the output.
     ensures unwritten { result ≢ DONE → result ≢ DEVICE_FAILED
         → Keeps (O.written output.old) (O.written output.new) }
 {

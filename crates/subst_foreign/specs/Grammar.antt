@@ -24,7 +24,7 @@ pub record Grammar : Type 1 where
 abbrev pub grammar : Forms → Bool → (Bool → List ℕ → Type 0) → Grammar
 grammar forms all Has = record { forms = forms; all = all; Has = Has }
 
--- whether `$$` is a dollar, and `${` is refused if it begins none of these forms
+-- whether both hold: `$$` is a dollar, and a `${` that begins none of these forms is refused
 abbrev pub is_whole : Forms → (all : Bool) → Bool
 is_whole of.Shell all = all
 is_whole of.Common all = true
@@ -147,7 +147,7 @@ abbrev pub NeverCloses : Forms → List ℕ → Type 0
 NeverCloses of.Shell x = ¬ (ClosesMessage of.Shell x)
 NeverCloses _ x = AllByRecursion IsNoBrace x
 
--- the byte may follow a dollar that isn't alone: it is a dollar, an opening brace, or the first byte of a
+-- a dollar before this byte may begin a form: the byte is a dollar, an opening brace, or the first byte of a
 -- shell's name
 abbrev pub FollowsDollar : ℕ → Type 0
 FollowsDollar b = (b ≡ dollar) ⊎ (b ≡ opening_brace) ⊎ (IsName (b ∷ []) × IsShellName (b ∷ []))
@@ -170,8 +170,8 @@ form_text form.ColonEquals = codes ":="
 form_text form.ColonPlus = codes ":+"
 form_text _ = []
 
--- The text x after a name in braces has the refused form. x is empty for `Unclosed`, and begins with the
--- `form_text` of a form that has one. For `Colon`, x begins with a colon, and none of `-`, `?`, `=` and `+`
+-- The text x after a name in braces has the refused form. For `Unclosed`, x is empty. For a form that has a
+-- `form_text`, x begins with it. For `Colon`, x begins with a colon, and none of `-`, `?`, `=` and `+`
 -- follows it. For `Other`, x begins with a byte that is no name byte and none of `}:-?=+#%/`. No x has the
 -- form `Dollar`, `NoName`, `Message` or `Brace`.
 abbrev pub HasForm : ShellForm → List ℕ → Type 0
@@ -196,8 +196,8 @@ GoesOn g form s = IsTrue (is_whole g.forms g.all) × ((n x : List ℕ) × IsName
 
 -- The text, in a default or not, begins with this refused form. A message that never closes is refused in any
 -- forms, and an opening brace in a default is refused in all but a shell's forms. If `is_whole` holds, `${`
--- is refused unless a name follows, and then a closing brace or an operator. Common forms also refuse a
--- dollar that begins nothing, and an opening brace in a message.
+-- is refused unless it is followed by a name and then by a closing brace or an operator. Common forms also
+-- refuse a dollar that begins nothing, and an opening brace in a message.
 abbrev pub IsRefused : Grammar → (inside : Bool) → ShellForm → List ℕ → Type 0
 IsRefused g inside form.Brace s =
     IsTrue inside × (g.forms ≢ of.Shell) × ((x : List ℕ) × (s ≡ opening_brace ∷ x))
@@ -212,8 +212,8 @@ IsRefused g inside form.Unclosed s =
     OpensMessage g (NeverCloses g.forms) s ⊎ GoesOn g form.Unclosed s
 IsRefused g inside form s = GoesOn g form s
 
--- no brace closes the message at the start of the text x (`Unclosed`), or an opening brace comes first
--- (`Message`)
+-- for `Unclosed`, no brace closes the message at the start of the text x. For `Message`, the first brace in x
+-- is an opening brace, and the forms aren't a shell's
 abbrev pub IsEndless : Forms → ShellForm → List ℕ → Type 0
 IsEndless forms form.Unclosed x = NeverCloses forms x
 IsEndless of.Shell form.Message x = ⊥

@@ -87,14 +87,14 @@ abbrev pub refused_at : ℕ → Token → List FormAt
 refused_at position (Refused form front) = record { position = position; form = form } ∷ []
 refused_at position _ = []
 
--- the position of the outermost open variable after a token at `position`: at depth 0 it is `position`, and
--- at any other depth still `outermost`
+-- the position of the outermost open variable after a token at `position`: `position` if the depth before the
+-- token is 0, and otherwise still `outermost`
 abbrev pub outermost_at : (depth outermost position : ℕ) → ℕ
 outermost_at zero outermost position = position
 outermost_at (suc depth) outermost position = outermost
 
 -- The refused forms of the text s and their positions, in order. s begins at `position` of the whole text, at
--- this depth, and the outermost open variable at `outermost`. An unclosed variable comes last.
+-- depth `depth`. The outermost open variable begins at `outermost`. An unclosed variable comes last.
 pub data Reading (g : Grammar) : (outermost position depth : ℕ) → (s : List ℕ) → List FormAt
     → Type 0 where
   ended : {outermost position : ℕ} → Reading g outermost position 0 [] []

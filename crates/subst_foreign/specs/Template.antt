@@ -47,8 +47,7 @@ abbrev pub item_of_name : (in_braces : Bool) → List ℕ → Item
 item_of_name true n = Braced n
 item_of_name false n = Short n
 
--- the template's item for the variable n without an operator; `item` is the item that is spelled as in the
--- text
+-- the template's item for the variable n without an operator; `item` spells the variable as the text does
 abbrev pub plain_item : Forms → Missing → Item → List ℕ → Item
 plain_item of.Common unset item n = Optional n
 plain_item of.Shell missing.Fault item n = Braced (value_of ∷ n)
@@ -79,13 +78,14 @@ abbrev mutual
   tree_of forms unset foreign.Empty = Empty
   tree_of forms unset (foreign.Then item rest) = tree_before forms unset item (tree_of forms unset rest)
 
--- the look-up with which a template of these forms is expanded, if the values are those of `look`
+-- the look-up with which a template for a text in these forms is expanded; `look` has the values of the
+-- text's variables
 abbrev pub seen_by : Forms → LookUp → LookUp
 seen_by of.Shell look = by_question look
 seen_by of.Common look = without_empty look
 seen_by _ look = look
 
--- a name without the digit of a question
+-- the name without its first byte if that is a digit, as in a question to a `ShellMap`
 abbrev pub without_question : List ℕ → List ℕ
 without_question [] = []
 without_question (b ∷ n) = if is_ascii_digit b then n else b ∷ n

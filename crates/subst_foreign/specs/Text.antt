@@ -85,7 +85,8 @@ abbrev pub if_found : Option (List ℕ) → Given → Given
 if_found (Some x) v = v
 if_found None v = Ok []
 
--- the value of a variable without an operator; if it is unset, nothing or a missing name
+-- the value of a variable without an operator; an unset one is missing if `unset` is `Fault` and the forms
+-- aren't `Common`, and empty otherwise
 abbrev pub plain_value : Forms → Missing → LookUp → List ℕ → Given
 plain_value of.Common unset look n = Ok (unwrap_or (look n) [])
 plain_value _ missing.Fault look n = found (look n) n

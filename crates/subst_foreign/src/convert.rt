@@ -216,7 +216,8 @@ fn rewritten<'t>(token: Token<'t>, forms: Forms, missing: Missing) -> Option<Rep
     Some(Replacement { front, name, end })
 }
 
-/// Returns the template's bytes around the name of a variable without an operator, or `None` if unchanged.
+/// Returns the template's bytes around the name of a variable without an operator, or `None` if the template
+/// spells the variable as the text does.
 fn plain_ends(forms: Forms, missing: Missing) -> Option<(&'static [u8], &'static [u8])>
     ensures some { IfSome result (λ ends. (item : Item) (n : List ℕ)
         → (item_text (plain_item forms missing item n) ≡ ends.0.now ++ n ++ ends.1.now)) }

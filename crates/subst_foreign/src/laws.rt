@@ -64,7 +64,8 @@ pub fn one_listing<N: Names>(style: Style<'_, N>)
 {}
 
 /// The law of one order. A template for a text has as many variables as the text, in the same order. Each
-/// variable of the template has the name by which the template looks up the text's variable.
+/// variable of the template has the name by which the template looks up the text's variable with the same
+/// index.
 pub fn variables_are_in_one_order<N: Names>(style: Style<'_, N>)
     ensures of_template { let g = grammar_of N.all N.counts style.entry in
         (s source : List ℕ) → IsTemplate g style.entry.missing s source
@@ -88,7 +89,7 @@ where
 {}
 
 /// The law of a `ShellMap` over a map of texts. For each name, the `ShellMap` has the text that `by_question`
-/// computes from the values in the underlying map. Each value must be the same as a text and as bytes.
+/// computes from the values in the underlying map. The text and the bytes of each value must be equal.
 pub fn questions_are_answered_by_texts<'a, M: BytesMap<'a> + 'a>()
 where
     M::Value: AsSlice<u8> + AsStr + Drop,

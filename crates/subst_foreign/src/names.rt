@@ -86,7 +86,7 @@ impl Names for OnlyNames<'_> {
     }
 }
 
-/// The choice of the names that a map has a value for, and of all names with an operator.
+/// The choice of the names that a map has a value for. Before an operator, every name is chosen.
 #[derive_where(Clone, Copy)]
 pub struct KnownNames<'a, M> {
     pub map: &'a M,

@@ -26,7 +26,7 @@ pub enum ShellForm {
     ColonEquals,
     /// `${NAME:+other}`.
     ColonPlus,
-    /// `${NAME:1:2}`, a substring, and any other colon.
+    /// `${NAME:1:2}`, a substring, and any other colon after a name in braces.
     Colon,
     /// `${NAME#pattern}`.
     Hash,

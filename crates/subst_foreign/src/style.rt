@@ -75,7 +75,7 @@ impl<'n, N: Names> Style<'n, N> {
         Ok(convert(alloc, source, *self)?.refused)
     }
 
-    /// Returns whether `$$` is a dollar and a `${` that begins none of the style's forms is refused.
+    /// Returns whether the style reads `$$` as a dollar and refuses each `${` that begins none of its forms.
     pub(crate) fn is_whole(&self) -> bool
         ensures { result ≡ is_whole self.now.forms (N.all self.now.names.now) }
     {

@@ -58,7 +58,8 @@ enum End<'t> {
     Other,
 }
 
-/// Returns the first token of a text, inside `depth` open variables and braces, and the text after the token.
+/// Returns the first token of a text, and the text after the token. `depth` is the number of variables and
+/// braces that are open where the text begins.
 pub(crate) fn step_at<'t, N: Names>(text: &'t [u8], depth: usize, style: Style<'_, N>) -> Step<'t>
     requires { 0 < length text.now }
     ensures { IsStep (grammar_of N.all N.counts style.entry) depth text.now result.0 result.1.now }
@@ -170,8 +171,8 @@ fn head_step<'t, N: Names>(
 }
 
 /// Returns the token of a `${` that begins no variable, and the text after the token. `text` follows the
-/// dollar. It consists of a brace, `name` and `after`; `name` may be empty. `is_other` is whether the end at
-/// the start of `after` is `End::Other`.
+/// dollar. It consists of a brace, `name` and `after`; `name` may be empty. `is_other` is whether `end_at`
+/// returns `End::Other` for `after`.
 fn lone_brace_step<'t, N: Names>(
     text: &'t [u8],
     name: &'t [u8],
@@ -331,7 +332,7 @@ fn form_at(text: &[u8]) -> ShellForm
     }
 }
 
-/// Returns the refused form of a name in braces and a colon, by the text after the colon.
+/// Returns the refused form of `${NAME:`, by the text after the colon.
 fn colon_form_at(text: &[u8]) -> ShellForm
     requires no_default { (x : List ℕ) → ¬ (text.now ≡ minus ∷ x) }
     requires no_message { (x : List ℕ) → ¬ (text.now ≡ question_mark ∷ x) }

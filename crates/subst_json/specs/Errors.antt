@@ -20,7 +20,7 @@ IsOfSubstitution e (Json d) = ⊥
 IsOfSubstitution e (Subst d) = (d ≡ e) × IsSome (error_fault e)
 IsOfSubstitution e (OutOfMemory d) = error_fault e ≡ None
 
--- the error is neither `Json` nor `Subst` of a failure to allocate: such a failure is `OutOfMemory`
+-- the error wraps no failure to allocate in `Json` or `Subst`: such a failure is `OutOfMemory`
 abbrev pub HasOwnMemory : Error → Type 0
 HasOwnMemory (Json e) = ¬ (IsMemory e)
 HasOwnMemory (Subst e) = IsSome (error_fault e)

@@ -30,7 +30,7 @@ pub record FillsIn (ask : List ℕ → Answer → Type 0) (source : List ℕ)
   pub unconfirmed : IfOk result (λ output. IfNone output
       (ReadsAsTree source (λ _. SomeChanges (GivesBy ask) (strings_in (tokens source)))))
   pub json : OnJson result (read source ≡ None)
-  -- a `Json` error is about a text that isn't a tree, and not about a type
+  -- a `Json` error is about the text, and never about a type that the tree doesn't fit
   pub kind : IfJson result IsOfText
   pub subst : OnSubst result
       (λ f. ReadsAsTree source (λ _. RefusesFirst ask (strings_in (tokens source)) f))

@@ -52,7 +52,7 @@ located_in path (t ∷ ts) = located_at path t ++ located_in (past_token t path)
 abbrev pub RefusalAt : Type 0
 RefusalAt = found.RefusalAt Path
 
--- the `Refusal` of the definitions for a refusal of the code
+-- a refusal of the code, converted to the `Refusal` of the definitions
 abbrev pub refusal_at : RefusalAt → Refusal
 refusal_at = refused.refusal_at steps_of
 
@@ -110,9 +110,9 @@ AreRefused ask source all =
 
 -- The list has all refused strings of the text, each with its span.
 pub record AreAllRefused (ask : List ℕ → Answer → Type 0) (source : List ℕ) (all : List RefusalAt) : Type 0 where
-  -- each has the span and the path of the string
+  -- each refusal has the span and the path of its string
   pub each : AreRefused ask source all
-  -- they are the refusals of the text's strings, in order; each other string has an output
+  -- the refusals are those of the text's strings, in order; each other string has an output
   pub refused : AreRefusals ask (located_in [] (tokens source)) (map refusal_at all)
   pub spelled : AreSpelled IsStringToken source 0 (map string_of all)
   pub range : AllByRecursion HasRangeInText (map refusal_at all)

@@ -4,8 +4,8 @@ use Rattle.serde_json.specs.Data.{Data, null, boolean, number, string, array, ob
 use Rattle.subst_language.specs.Language.LookUp.{LookUp}
 use Rattle.subst_language.specs.Language.Several.{GivesBy, under}
 
--- The strings of a tree: those of an array by index, and those of an object in the reader's order, by the
--- bytes of keys. Keys aren't among them.
+-- The strings of a tree, without the keys. Those of an array are in the order of its items. Those of an
+-- object are in the order of its members, which the reader sorts by the bytes of their keys.
 abbrev mutual
   pub strings : Data → List (List ℕ)
   strings (string s) = s ∷ []

@@ -13,13 +13,13 @@ abbrev pub AreOfValue : List Token → Type 0
 AreOfValue ts = (j : Json) × (ts ≡ json_tokens j) × (depth j ≤ max_depth)
 
 -- The tokens `ts` begin with the tokens of a value, of items or of members, and `More` holds of the rest.
--- With the `outer` open brackets around it, this beginning nests no deeper than the reader allows.
+-- Inside `outer` open brackets, this beginning nests no deeper than the reader allows.
 abbrev pub Begins : {T : Type 0} → (T → List Token) → (T → ℕ) → ℕ → (List Token → Type 0) → List Token → Type 0
 Begins {T} tokens_of depth_of outer More ts = (it : T) × (rest : List Token) × (ts ≡ tokens_of it ++ rest)
     × (depth_of it + outer ≤ max_depth) × More rest
 
--- the tokens begin with the expected part, and `More` holds of the rest; `Item` and `Key` go up to the end of
--- the array or the object
+-- the tokens begin with the expected part, and `More` holds of the rest; the part of `Item` extends to the
+-- end of the array, and that of `Member` or `Key` to the end of the object
 abbrev pub BeginsWith : Expected → ℕ → (List Token → Type 0) → List Token → Type 0
 BeginsWith Value outer More ts = Begins json_tokens depth outer More ts
 BeginsWith Member outer More ts =
@@ -33,7 +33,7 @@ abbrev pub AreExpected : List Expected → List Token → Type 0
 AreExpected [] ts = ts ≡ []
 AreExpected (first ∷ more) ts = BeginsWith first (length more) (AreExpected more) ts
 
--- all parts that are expected: first the next one, and then those after each open bracket, from the inside
+-- all expected parts: the next one, and then those that follow the open arrays and objects, from the inside
 -- out
 abbrev pub expected : Nesting → List Expected
 expected nesting = nesting.next ∷ reverse nesting.outer.items

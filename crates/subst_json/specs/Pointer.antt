@@ -8,7 +8,7 @@ use Rattle.subst_document.specs.Paths.{PathStep, Key, Index}
 abbrev pub escaped_byte : ℕ → List ℕ
 escaped_byte b = if b == 126 then codes "~0" else if b == 47 then codes "~1" else b ∷ []
 
--- the text of a step: a slash, and then the key, escaped, or the index
+-- the text of a step: a slash, and then the escaped key or the index
 abbrev pub step_text : PathStep → List ℕ
 step_text (Key key) = codes "/" ++ flat_map escaped_byte key
 step_text (Index i) = codes "/" ++ decimal i

@@ -19,7 +19,7 @@ use Rattle.subst_document.specs.Report.{lines_of, ReportsAll, ReportsFault}
 abbrev pub HasRange : RefusalAt → Type 0
 HasRange it = HasRangeInText (refusal_at it)
 
--- the text reports the refused string `it` of the text s of a file
+-- `text` reports the refused string `it` of a file whose text is s
 abbrev pub ReportsRefused : (file s : List ℕ) → RefusalAt → List ℕ → Type 0
 ReportsRefused file s it text =
     ReportsFault IsPlaceIn file s (pointer_text (steps_of it.path)) it.span (error_fault it.error) text
@@ -32,7 +32,7 @@ ReportsReader file s text =
     × MatchOption place (ReadsAsTree s (λ _. ⊤)) (λ place. (read s ≡ None) × IsRangeIn s place)
     × (text ≡ lines_of file s place message)
 
--- the text reports the error of a call that filled in the text s of a file
+-- `text` reports the error of a failed call on a file whose text is s
 abbrev pub Reports : (List ℕ → Answer → Type 0) → (file s : List ℕ) → Error → List ℕ → Type 0
 Reports ask file s (Json e) text = ReportsReader file s text
 Reports ask file s (Subst e) text = ReportsAll (AreAllRefused ask s) ReportsRefused file s (error_fault e) text

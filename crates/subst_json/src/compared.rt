@@ -69,7 +69,7 @@ struct RemainingStrings<'v> {
 }
 
 impl RemainingStrings<'_> {
-    /// Takes `token`, the next one, and returns whether `filled` is `token`, filled in.
+    /// Takes `token`, the next token of the source, and returns whether `filled` is its filled-in token.
     fn check_token<F: Fill>(&mut self, token: Token<'_>, filled: Token<'_>, filler: &F) -> bool
         ensures { IsTrue result → (rest : List spec.Token)
             → AreRemaining (GivesBy (F.answers filler.now)) self.old (token_of token.entry ∷ rest)

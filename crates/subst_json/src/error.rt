@@ -76,8 +76,9 @@ impl fmt::Display for Error {
 
     ghost output = { display_of_json };
 
-    // `writes` doesn't state a text that quotes a non-ASCII character, which may be escaped or not. If a
-    // string is refused, `text` states that the error's text has one of these two forms.
+    // The clause `writes` doesn't state the error's text if it quotes a non-ASCII character, which may be
+    // escaped or not. If a string is refused, the clause `text` states that the error's text has one of these
+    // two forms.
     fn fmt<W: fmt::Write>(&self, f: &mut fmt::Formatter<W>) -> fmt::Result
         ensures writes { DisplaysOnOk W.write_str_gives f.old result
             (display_of_json self.now) f.new }

@@ -56,7 +56,7 @@ fn has_plain_tokens(alloc: Global, source: &str, plain: &str) -> Result<bool, Al
     Ok(reader_of_plain.next().is_none())
 }
 
-/// Returns whether `plain` is `null` for a string `token`, and equal to any other `token`.
+/// Returns whether `plain` is the replacement of `token`: `null` for a string, and otherwise an equal token.
 fn is_plain(token: Token<'_>, plain: Token<'_>) -> bool
     ensures { IsTrue result → token_of plain.entry ≡ plain_token (token_of token.entry) }
 {

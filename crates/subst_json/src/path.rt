@@ -20,7 +20,8 @@ pub struct Path {
     pub steps: Vec<PathStep>,
 }
 
-/// Writes for each step `/` and then its index, or its key with `~` as `~0` and `/` as `~1`.
+/// Writes each step as `/`, followed by its index or its escaped key. In a key, `~` is written as `~0`, and
+/// `/` as `~1`.
 impl fmt::Display for Path {
     ghost output = { λ path. Some (pointer_text (steps_of path)) };
 

@@ -151,8 +151,8 @@ fn advance(alloc: Global, steps: &mut Vec<PathStep>, token: Token<'_>) -> Result
     }
 }
 
-/// Changes `steps`, the path to a value, into the path to the next part: in an array, the next index. Returns
-/// `false` if the index overflows.
+/// Changes `steps`, the path to a value, into the path to the next part. If the last step is an index, it is
+/// incremented; otherwise the path is unchanged. Returns `false` if the index overflows.
 fn advance_past_value(steps: &mut Vec<PathStep>) -> Result<bool, AllocError>
     ensures { IfOk result (λ is. IsTrue is → reverse (map step_of steps.new.items)
         ≡ past_value (reverse (map step_of steps.old.items))) }

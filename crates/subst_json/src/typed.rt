@@ -13,7 +13,7 @@ use std::alloc::Global;
 /// A type that a tree can be converted into: any that `serde` deserializes.
 pub trait FromTree: Sized + Drop {
     // The relation of a tree and the possible results of its conversion. For the types of `serde`, nothing is
-    // known about the results. A contract that holds for every such relation still states which tree is
+    // known about the results. Even so, a contract that holds for every such relation states which tree is
     // converted.
     ghost reads: { Data → Result Self Error → Type 0 };
 

@@ -67,9 +67,9 @@ pub fn law_3()
 {}
 
 /// The law of names. A tree has the same value under two look-ups that agree on all names in the tree.
-/// Suppose instead that each of these names with a value in the first look-up has one in the second, perhaps
-/// another. If the tree's value under the first is bytes, so is its value under the second, perhaps with
-/// other bytes.
+/// Suppose instead that each of these names with a value in the first look-up also has a value in the second,
+/// possibly a different one. If the tree's value under the first look-up is bytes, its value under the second
+/// is bytes too, though perhaps different ones.
 pub fn law_4()
     ensures same { (p : ℕ) (t : Tree) (a b : LookUp) → All (λ n. a n ≡ b n) (names_in t)
         → value p t a ≡ value p t b }
@@ -133,10 +133,10 @@ pub fn missing_variables_are_missing()
 {}
 
 /// The law of all missing variables. The list of a tree's missing variables is empty if and only if the
-/// tree's value is bytes. Otherwise the list begins with the variable that an expansion is refused for. It
-/// has only required variables of the tree, in order, that the look-up has no value for. A second look-up
-/// with values for these variables, and for all names with a value in the first, expands the tree to bytes.
-/// The names of a tree's variables are the names in the tree.
+/// tree's value is bytes. Otherwise the list begins with the variable that an expansion is refused for. The
+/// list has only required variables of the tree, in the tree's order, and the look-up has no value for any of
+/// them. A second look-up with values for these variables, and for all names with a value in the first,
+/// expands the tree to bytes. The names of a tree's variables are the names in the tree.
 pub fn missing_lists_are_whole()
     ensures none { (p : ℕ) (t : Tree) (look : LookUp)
         → (all_missing p t look ≡ [] ↔ ((x : List ℕ) × (value p t look ≡ Bytes x))) }
@@ -174,9 +174,9 @@ pub fn outputs_are_bounded()
         → visited_length t look ≤ sum_by (length_of look) (names_in t) }
 {}
 
-/// The law of writing. If a tree's value is bytes, an evaluation writes exactly these bytes. If a variable is
-/// missing, it writes at most the visited plain and escaped bytes of the tree and the values of the visited
-/// variables.
+/// The law of writing. If a tree's value is bytes, an evaluation writes exactly these bytes. An evaluation
+/// never writes more bytes than the visited plain and escaped bytes of the tree and the values of visited
+/// variables have together.
 pub fn writes_are_bounded()
     ensures exact { (p : ℕ) (t : Tree) (look : LookUp) (x : List ℕ) → value p t look ≡ Bytes x
         → written p t look ≡ x }

@@ -21,13 +21,13 @@ mod no_empty;
 
 /// A map from variable names to values.
 ///
-/// Contracts see a map as a look-up: a function from the bytes of a name to `None`, or to what the name's
-/// value is identified with. Infinitely many names may have values. An implementation has three ghost
-/// members:
+/// In contracts, each value is identified with something of the type `Seen`. A reference is identified with
+/// the value that it points to, as no contract knows the reference's address. The map is a look-up: a
+/// function from the bytes of a name to what the name's value is identified with, or to `None`. Infinitely
+/// many names may have values. An implementation has three ghost members:
 ///
-/// - `Seen`: the type of what values are identified with. A reference is identified with the value that it
-///   points to, as no contract knows the reference's address. If the bytes of a value don't follow from what
-///   the value is identified with, contracts state no output under the map.
+/// - `Seen`: the type of what values are identified with. If the bytes of a value don't follow from what the
+///   value is identified with, contracts state no output under the map.
 /// - `see`: the function from a value to what it is identified with.
 /// - `look_up`: the look-up, as a function of the map and a name.
 pub trait VariableMap<'a> {

@@ -10,8 +10,9 @@ use std::alloc::AllocError;
 
 /// A sink for parsed parts, appended in order. A default is opened before its parts and closed after them.
 ///
-/// Contracts see a sink by four ghost members:
+/// Contracts see a sink through five ghost members:
 ///
+/// - `First`: the type of a sink's first state, as contracts see it.
 /// - `holds`: the relation of a sink, its first state, and the parts that the sink holds.
 /// - `source`: the relation of the first state and the source of these parts.
 /// - `limit`: the bound that each offset and index in a part has to be below.
@@ -63,8 +64,8 @@ pub trait Sink {
         ensures kept { OnErr result (Keeps holds self.old self.new) }
         ensures cause { OnErr result asks };
 
-    /// Closes the innermost open default, which has this index and name. All parts that the sink holds after
-    /// it are its own.
+    /// Closes the innermost open default, which has this index and name. All parts that follow it in the sink
+    /// are the default's own.
     fn close(&mut self, index: usize, name: Span)
         requires { CanClose holds limit self.old index name }
         ensures { ClosesDefault holds self.old index name self.new };

@@ -1,4 +1,4 @@
-//! Calls over bytes, and their templates.
+//! Calls over bytes and over byte templates.
 
 use crate::calls::{Show, again, clone, print_bytes};
 use std::alloc::{AllocError, Global};
@@ -17,7 +17,7 @@ pub const MISSING: &[u8] = b"Hi ${hi:$name and ${who:$absent}}!";
 /// A source with a bad escape in its inner default.
 pub const BAD_ESCAPE: &[u8] = b"Hi ${hi:$name and ${who:\\!}}!";
 
-/// A value that is longer than any of the sources.
+/// An entry whose value is longer than any of the sources.
 pub const NAME: &str = "name=the whole round world with all that is in it";
 
 impl Show for &[u8] {

@@ -6,7 +6,8 @@ use subst::error::{ExpandError, NoSuchVariable, ParseError};
 use subst_testing::answers::fault_text;
 
 /// Makes a call, named `$name` in `docs/MEMORY.md`, and repeats it if its result matches `$out_of_memory`.
-/// Prints the borrowed values before and after the call, its result, and an empty line.
+/// Prints the borrowed values before the call. Then prints the call's result, the borrowed values again, and
+/// an empty line.
 macro_rules! again {
     ($rt:ident, $name:expr, [$($borrowed:ident),*], $out_of_memory:pat => $call:expr) => {
         $($borrowed.show($rt, "borrowed");)*

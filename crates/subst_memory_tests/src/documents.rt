@@ -5,13 +5,13 @@ use std::alloc::{AllocError, Global};
 use subst::{Error, json, toml as filled};
 use subst_testing::variables::texts;
 
-/// A JSON tree with values of each kind, in compact form.
+/// A JSON tree with strings, a number, `null`, an array and objects, in compact form.
 const JSON: &str = "{\"k\":[\"$name\",1,null,{\"$name\":\"${b:x}\"}],\"l\":\"${c:$name}/y\"}";
 
 /// A JSON tree whose second string has a missing variable.
 const MISSING_IN_JSON: &str = "[\"$name\",[\"é$absent\"],\"$\"]";
 
-/// A TOML document with values of each kind.
+/// A TOML document with a date, strings, an integer, a boolean, an array and tables.
 const TOML: &str =
     "d = 1979-05-27\nk = ['$name', 1, true, { '$name' = '${b:x}' }]\n[t]\nl = '${c:$name}/y'\n";
 

@@ -38,7 +38,7 @@ impl Show for TextVariable<'_> {
     }
 }
 
-/// Prints `names`, since a set of names has no text.
+/// Prints the fixed text `names`, since a set of names has no text of its own.
 impl Show for OnlyNames<'_> {
     fn show(&self, rt: &HostRuntime, word: &str) {
         print(rt, word, "names");

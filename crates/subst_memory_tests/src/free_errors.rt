@@ -1,4 +1,4 @@
-//! Calls on errors that don't allocate.
+//! Allocation-free calls on errors.
 
 use crate::calls::{Show, once, print};
 use crate::errors::{absent, no_name};

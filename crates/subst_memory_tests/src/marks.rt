@@ -1,4 +1,4 @@
-//! Printed marks around calls. The script that makes allocations fail learns from them which call allocates.
+//! Printed marks around calls. From the marks, `tests/test_memory.py` learns which call allocates.
 
 use std::io::Print;
 

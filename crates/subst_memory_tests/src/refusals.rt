@@ -56,8 +56,8 @@ impl Show for yaml::Path {
     }
 }
 
-/// Makes the calls on the first refused string of a document: the span of the name in it, and its path.
-/// `$listed` is the pattern of the list `$refused` in the result of `refusals_in`.
+/// Makes the calls on the first refused string of a document: `place_in` for the name in it, and `Display` of
+/// its path. `$listed` is the pattern that binds the list `$refused` in the result of `refusals_in`.
 macro_rules! calls_of_refusals {
     ($rt:ident, $format:ident, $name:literal, $source:ident, $refused:ident in $listed:pat) => {
         let alloc = $rt.alloc();

@@ -1,4 +1,4 @@
-//! Calls over texts, and their templates.
+//! Calls over texts and over templates of texts.
 
 use crate::calls::{Show, again, clone, print};
 use std::alloc::{AllocError, Global};
@@ -19,7 +19,7 @@ pub const BAD_ESCAPE: &str = "Hé ${hi:$name and ${who:\\!}}!";
 /// A sentence with nested defaults.
 const DEFAULTS: &str = "Hello ${a:cruel ${b:round ${c:world}}}!";
 
-/// A value that is longer than any of the sources.
+/// An entry whose value is longer than any of the sources.
 pub const NAME: &str = "name=the whole round world with all that is in it";
 
 impl Show for Texts<'_> {

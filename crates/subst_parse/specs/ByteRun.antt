@@ -1,4 +1,4 @@
--- Runs of bytes with a property in a source.
+-- Runs of a source's bytes that all have a property.
 use Rattle.std.specs.Prelude.{◌≡◌, ℕ, ◌+◌, ◌<◌, ◌≤◌, List, ◌++◌, length, drop}
 use Rattle.std.specs.List.{AllByRecursion}
 use Rattle.subst_language.specs.Language.Name.{BeginsWithNo}

@@ -36,9 +36,9 @@ StepReads before (Ok _) after =
 StepReads before (Err e) after =
     GrowsBetween 1 (2 * (length before.tape.source.now - before.at) + 8) before.tape.reads after.tape.reads
 
--- The reads of a step of the parser whose first byte has been read already. A step that advances n bytes
--- makes at least n - 1 and at most 2 * n - 1 reads. If a step begins with n bytes left and ends in an error,
--- it makes at most 2 * n + 6 reads.
+-- `StepReads` for the rest of a step, whose first byte has been read already. If the step advances n bytes,
+-- the rest makes at least n - 1 and at most 2 * n - 1 reads. If the step begins with n bytes left and ends in
+-- an error, the rest makes at most 2 * n + 6 reads.
 abbrev pub StepReadsAfterFirst : {S : Type 0} → Parser S → Result (Unit {0}) Halt → Parser S → Type 0
 StepReadsAfterFirst before (Ok _) after =
     GrowsBetween (after.at - before.at - 1) (2 * (after.at - before.at) - 1)

@@ -19,8 +19,8 @@ use Rattle.subst_parse.specs.declared.halt.Halt.{Halt}
 use Rattle.subst_parse.specs.declared.parse.OpenDefault.{OpenDefault}
 use Rattle.subst_parse.specs.declared.parse.Parser.{Parser}
 
--- the source s has the text of the well-formed tree t in from..to, and doesn't continue a name at the tree's
--- end
+-- in from..to, the source s has the text of the well-formed tree t; the bytes from `to` on don't continue a
+-- name at the end of t
 pub record IsTreeAt (s : List ℕ) (from to : ℕ) (t : Tree) : Type 0 where
   pub well_formed : IsWellFormed t
   pub followed : IsFollowed t (drop to s)

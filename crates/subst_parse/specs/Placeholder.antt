@@ -53,7 +53,7 @@ pub record IsBadWhenCut (p : ℕ) (r : List ℕ) (f : Fault) : Type 0 where
   pub bad : IsBad p r f
   pub cut : (x q : List ℕ) → r ≡ x ++ closing_brace ∷ q → IsBad p x f
 
--- the error states the fault of the bad item at position `at` of the source s, wherever a default around it
--- ends
+-- the error states the fault that the bad item at position `at` of the source s has, wherever a default
+-- around the item ends
 abbrev pub StatesBadItem : Halt → List ℕ → ℕ → Type 0
 StatesBadItem e s at = IsSomeAnd (halt_fault e) (IsBadWhenCut at (drop at s))

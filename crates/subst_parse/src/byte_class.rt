@@ -1,5 +1,5 @@
 //! Classes of bytes: bytes of names, plain bytes, and plain bytes except braces. The parser finds runs of
-//! bytes of one class. Each class has the bytes of its definition in `specs/`.
+//! bytes of one class. Each class consists of the bytes that its definition in `specs/` states.
 
 ghost use Rattle.std.specs.Prelude.{◌≡◌, ◌↔◌, ℕ, IsTrue};
 ghost use Rattle.subst_language.specs.Language.Bytes as bytes;

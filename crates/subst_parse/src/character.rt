@@ -17,7 +17,7 @@ pub(crate) fn front_character(bytes: &[u8]) -> CharOrByte
     }
 }
 
-/// Returns the longest prefix of the first four bytes that is UTF-8. No character is longer than four bytes.
+/// Returns the longest UTF-8 prefix of the first four bytes. No character is longer than four bytes.
 fn front_text(bytes: &[u8]) -> &str
     ensures front { (rest : List ℕ) × (bytes.now ≡ result.now ++ rest) }
     ensures empty { result.now ≡ [] → (c : ℕ) → ¬ (BeginsWithChar bytes.now c) }

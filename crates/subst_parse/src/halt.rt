@@ -1,5 +1,5 @@
-//! The reasons to stop parsing before the end of the source, without messages. A reason converts into a
-//! `ParseError` that states the same fault.
+//! The reasons to stop parsing with an error, without messages. A reason converts into a `ParseError` that
+//! states the same fault.
 
 ghost use Rattle.std.specs.Prelude.{◌≡◌, ◌≤◌, Some, None, length};
 ghost use Rattle.subst_error.specs.ErrorFault.{parse_fault};
@@ -20,8 +20,8 @@ const AFTER_NAME: &str = "a closing brace ('}'), colon (':') or question mark ('
 /// The message of what is expected after a question mark.
 const AFTER_QUESTION_MARK: &str = "a closing brace ('}')";
 
-/// A reason to stop parsing before the end of the source: a `ParseError` without its message. It is small,
-/// since each step of the parser returns a `Result<(), Halt>`.
+/// A reason to stop parsing with an error: a `ParseError` without its message. It is small, since each step
+/// of the parser returns a `Result<(), Halt>`.
 #[derive(Clone, Copy)]
 pub(crate) enum Halt {
     /// A backslash at the end of the source.

@@ -7,7 +7,8 @@ use subst_language::Counter;
 
 /// The number of reads of a parse.
 ///
-/// A read is one byte of the source, or its end, that the parser looks at by its offset or in a search.
+/// One read is one byte of the source, or the end of the source, that the parser looks at by offset or in a
+/// search.
 #[derive(Drop)]
 pub struct Reads {
     counter: Counter,

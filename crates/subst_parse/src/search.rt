@@ -115,8 +115,8 @@ fn first_outside<C: VectorClass>(source: &[u8], from: usize, to: usize) -> usize
 }
 
 /// Returns the offset of the first byte in `from..to` that isn't in the class, or `to` if there is none. The
-/// range is shorter than a vector, so one vector is read that ends at `to` and overlaps the bytes before
-/// `from`.
+/// range must be shorter than a vector. If at least 32 bytes precede `to`, the last 32 of them are tested as
+/// one vector, and those before `from` are ignored. Otherwise single bytes are tested.
 #[inline(always)]
 fn first_outside_tail<C: VectorClass>(source: &[u8], from: usize, to: usize) -> usize
     requires ordered { from ≤ to }

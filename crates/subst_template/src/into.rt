@@ -1,4 +1,4 @@
-//! Substitutions into a caller's buffer, whose errors never allocate.
+//! Substitutions into a caller's buffer. Their errors never allocate.
 
 ghost use Rattle.std.specs.Prelude.{◌≡◌, ◌≤◌, IfOk, OnErr};
 ghost use Rattle.std.specs.Prelude.{string_bytes, string_capacity, string_len, vec_capacity, vec_len};

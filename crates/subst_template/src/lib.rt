@@ -83,7 +83,7 @@ where
 /// Expands the text `source` with the values of `variables`, which are texts.
 ///
 /// The output is that of [`substitute_bytes`] for the bytes of the texts. It is proved to be UTF-8, so there
-/// is no error for that.
+/// is no error for invalid UTF-8.
 ///
 /// ```rust
 /// let mut variables = BTreeMap::new(alloc);

@@ -62,7 +62,7 @@ fn parse_packed<O: Offset>(
     }
 }
 
-/// Creates an empty list of parts. `some` means that parts will follow. The function then tries to reserve
+/// Creates an empty list of parts. If `some` is true, parts will follow, and the function tries to reserve
 /// capacity for `FIRST_PARTS` of them.
 fn empty_list<O: Offset>(alloc: Global, some: bool) -> PackedVec<O>
     ensures { result ≡ [] }

@@ -1,6 +1,6 @@
-//! A run, with enough memory, of each caller in `subst_uses`. A contract states the output, but a body that
-//! always fails also satisfies it. The callers for each kind of map are run in `maps`, and the loaders in
-//! `loaders`.
+//! Runs of the callers in `subst_uses`, with enough memory. A contract states a caller's output, but a body
+//! that always fails would satisfy the contract too. The callers for each kind of map are run in `maps`, and
+//! the loaders in `loaders`.
 
 use crate::expect::{expect, expect_bytes};
 use std::alloc::{AllocError, Global};

@@ -208,7 +208,8 @@ fn filled_bytes(alloc: Global, forms: Forms, template: &[u8]) -> Result<Vec<u8>,
     }
 }
 
-/// Expects the template and the output of `row` for its text and for the text's bytes, and no refused forms.
+/// Expects that the text of `row` has the row's template and output, as a text and as bytes. No form in the
+/// text may be refused.
 fn expect_row<N: Names>(rt: &impl Testing, style: Style<'_, N>, row: Row<'_>) {
     let (text, template, given) = row;
     let (bytes, alloc) = (text.as_bytes(), rt.alloc());

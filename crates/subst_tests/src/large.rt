@@ -79,7 +79,8 @@ fn as_deep_as_the_reader_of_toml_goes(rt: HostRuntime) -> Result<(), AllocError>
     Ok(())
 }
 
-/// Returns a TOML string in `tables` nested inline tables, each under a key of 80 parts.
+/// Returns a TOML text with a string in `tables` nested inline tables. The string and each table have a key
+/// of 80 parts.
 fn under_long_keys(alloc: Global, tables: usize) -> Result<String, AllocError> {
     let key = repeated(alloc, "", "k.", 79, "k = ")?;
     let open = repeated(

@@ -1,5 +1,5 @@
-//! Lookups, recorded by a map: each visited variable is looked up once, in order. Calls without a template
-//! also look up the names before a fault.
+//! Lookups, recorded by a map: each variable that a call reaches is looked up once, in order. Calls without a
+//! template also look up the names before a fault.
 //!
 //! No contract states how often `get` is called, or with which names.
 
@@ -193,8 +193,8 @@ const JSON: &str = r#"{"b":["$1","${2:$1}"],"a":"${3?}$1","c":"$1"}"#;
 const TOML: &str = "b = ['$1', '${2:$1}']\na = '${3?}$1'\nc = '$1'\n";
 
 /// Reading a tree looks up the names of each string once, and so does filling in a text in place. If a string
-/// of the text has several placeholders and changes, its names are looked up once more. For a TOML text, a
-/// tree is filled in first.
+/// of the text has several placeholders and changes, its names are looked up once more. Filling in a TOML
+/// text in place fills in its tree first, so the names of each string are looked up one more time.
 #[test]
 fn documents_look_up_the_names_of_each_string(rt: HostRuntime) {
     let alloc = rt.alloc();

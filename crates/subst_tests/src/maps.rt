@@ -160,7 +160,7 @@ fn an_empty_value_counts_as_none(rt: HostRuntime) -> Result<(), Fail> {
     Ok(())
 }
 
-/// Sources that ask a `ShellMap` about a set, an empty and an unset variable, and their outputs.
+/// Sources with their outputs. Each source asks a `ShellMap` about a set, an empty and an unset variable.
 const QUESTIONS: [(&str, &str); 4] = [
     ("${1full:d} ${1empty:d} ${1absent:d}", "text  d"),
     ("${2full:d} ${2empty:d} ${2absent:d}", "d d "),

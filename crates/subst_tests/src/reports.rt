@@ -1,6 +1,7 @@
 //! Positions in reports: the line and the column of a fault, both from 1.
 //!
-//! Ranges, source lines and underlines are in `data/rows.tsv` of `subst_vectors`, with all these sources.
+//! Each refused source is also in `data/rows.tsv` of `subst_vectors`, with the range, source line and
+//! underline of its fault.
 
 ghost use Rattle.subst.specs.ErrorFault.{error_fault};
 ghost use Rattle.subst.specs.Range.{range_of, IsRangeIn};
@@ -12,7 +13,8 @@ use std::test::Fail;
 use subst::error::{MissingClosingBrace, MissingVariableName};
 use subst::{Error, NoSubstitution, substitute};
 
-/// Expects a fault's line and column, such as `1:7`, and the same highlighting whether written or returned.
+/// Expects that a fault's line and column are `want`, such as `1:7`. Its highlighting must be the same
+/// whether it is written or returned.
 fn expect_position(
     rt: &impl Testing,
     fault: &Error,
@@ -158,7 +160,7 @@ fn range_of_out_of_memory(rt: HostRuntime) -> Result<(), Fail> {
     Ok(())
 }
 
-/// A writer that fails after this many calls.
+/// A writer whose first `after` calls succeed, and whose later calls fail.
 #[derive(Drop)]
 struct Fails {
     after: u8,

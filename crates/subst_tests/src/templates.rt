@@ -1,6 +1,6 @@
-//! Templates with two maps, owned templates that are taken apart, expansion into slices, `{:?}` of templates,
-//! and escaped texts. Other outputs, also those of borrowed templates and copies, are tested by each row of
-//! `subst_vectors`.
+//! Templates expanded with two maps, owned templates that are taken apart, expansion into slices, `{:?}` of
+//! templates, and escaped texts. Each row of `subst_vectors` tests other outputs, also those of borrowed
+//! templates and copies.
 
 use crate::expect::expect;
 use std::alloc::{AllocError, Global};

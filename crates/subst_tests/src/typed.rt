@@ -254,7 +254,8 @@ fn a_map_of_json_without_substitution(rt: HostRuntime) {
     expect(&rt, source, json_owners(rt.alloc(), source), want);
 }
 
-/// Returns the result of reading a type from TOML, with a key under a header of 80 parts.
+/// Reads a `Value` from a TOML text in which `key` is under a header of 80 parts. Returns `a tree`, or the
+/// text that `of_toml` returns for the error.
 fn toml_under_a_long_header(alloc: Global, key: &str) -> Result<String, AllocError> {
     let header = "k.".repeat(alloc, 79)?;
     let source = ["[", header.as_str(), "k]\n", key, " = 'x'\n"].concat(alloc)?;
@@ -266,8 +267,8 @@ fn toml_under_a_long_header(alloc: Global, key: &str) -> Result<String, AllocErr
 
 #[test]
 fn a_type_is_read_from_80_levels_of_toml(rt: HostRuntime) {
-    // With one more part, the source can still be read as a tree. But the printed tree has a header of 81
-    // parts, which the reader refuses.
+    // If the key has two parts, the source can still be read as a tree. But the type is read from the printed
+    // tree, and the reader refuses that text's header of 81 parts.
     let rows: &[(&str, &str)] = &[("k", "a tree"), ("k.k", "no TOML")];
     for &(key, want) in rows {
         expect(&rt, key, toml_under_a_long_header(rt.alloc(), key), want);

@@ -79,7 +79,8 @@ value p text =
     else if first text == left_brace then Some (opened InlineTable p, drop 1 text)
     else option_map (λ r. (p, r.1)) (unquoted text)
 
--- the state and the text after a key and its value, as by `value`
+-- the state and the text after a key and its value; of an array or inline table only the opening bracket is
+-- read
 abbrev pub pair : Scanner → List ℕ → Read Scanner
 pair p text = option_and_then (λ k. value p k.1) (key_equals text)
 
@@ -135,8 +136,8 @@ IsFilledIn Becomes source output =
     (found : List Spelled) × (strings_in source ≡ Some found)
     × IsFilledText IsQuotedToken IsPartOf IsFit Becomes (map (λ it. it.text) found) source output
 
--- the output is the source, filled in, or the source itself if `Becomes` relates each string of the source's
--- tree to itself
+-- the output is the filled-in source; or it is the source itself, and `Becomes` relates each string of the
+-- source's tree to itself
 abbrev pub IsFilledOrSame : (List ℕ → List ℕ → Type 0) → List ℕ → List ℕ → Type 0
 IsFilledOrSame Becomes source output = IsFilledIn Becomes source output
     ⊎ ((output ≡ source) × ReadsAsTree source (λ d. IsEach Becomes d d))

@@ -154,7 +154,7 @@ enum Part {
 }
 
 impl Part {
-    /// Returns the part that the byte after `byte` is in, if `byte` is in this part.
+    /// Returns the part that the byte after `byte` is in. The part of `byte` itself is `self`.
     fn after(self, byte: u8) -> Part
         ensures { result ≡ part_after self byte }
     {
@@ -234,7 +234,8 @@ fn is_surrogate(bytes: &[u8]) -> bool
         && byte_at(bytes, 5).is_ascii_hexdigit()
 }
 
-/// Returns the half of a surrogate pair whose escape has this second digit, or `None` if neither half has it.
+/// Returns the half of a surrogate pair, by the second digit of its escape (the 8 of `\ud800`). Returns
+/// `None` if neither half's escape has this second digit.
 fn half_of_digit(digit: u8) -> Option<SurrogateHalf>
     ensures { result ≡ half_by digit }
 {

@@ -59,7 +59,7 @@ pub(crate) fn text_in(
     }
 }
 
-/// Returns the value `text` once all bytes are read; inside quotes `None`, since the closing quote is
+/// Returns the value `text` once all bytes are read. Returns `None` inside quotes, since the closing quote is
 /// missing.
 fn at_end<'t>(text: Vec<u8>, rest: &'t [u8], quote: Quote) -> Option<Text<'t>>
     ensures text { rest.now ≡ [] → option_map text_of result
@@ -72,7 +72,8 @@ fn at_end<'t>(text: Vec<u8>, rest: &'t [u8], quote: Quote) -> Option<Text<'t>>
     }
 }
 
-/// Appends the shell-style text of a byte, escape or `$$` that begins with `first`. Returns the bytes left.
+/// Appends the shell-style text of the piece that begins with `first`: an escape, `$$`, or else the byte
+/// alone. Returns the bytes after the piece.
 ///
 /// # Errors
 ///

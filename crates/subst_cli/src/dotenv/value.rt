@@ -182,8 +182,8 @@ fn unreadable_in<'t>(
     Ok(None)
 }
 
-/// Returns the unset variable that `missing`, the error of the template of `text`, reports. The variable's
-/// message isn't expanded.
+/// Returns the unset variable that `missing` reports. `missing` is the error of expanding the template of
+/// `text`. The variable's message isn't expanded.
 ///
 /// # Errors
 ///
@@ -232,7 +232,8 @@ fn without_question(name: &str) -> Result<&str, AllocError>
     }
 }
 
-/// Returns the variable of `text` that is at `position` of the text's template, or `None` if there is none.
+/// Returns the variable of `text` whose counterpart in the text's template is at `position`, or `None` if
+/// there is none.
 ///
 /// # Errors
 ///
@@ -266,7 +267,7 @@ fn forms() -> Chosen<'static> {
     }
 }
 
-/// Returns the unset variables of a text that its expansion needs and that have no operator.
+/// Returns the variables of a text that are unset, have no operator, and are needed by the text's expansion.
 ///
 /// # Errors
 ///

@@ -43,7 +43,7 @@ where
         (λ look. IfSome (I.left input.old) (λ source. RunAnswers source look
         result (O.written output.old) (O.written output.new))) }
 
-    // The source is UTF-8, or is reported not to be, unless reading failed or memory ran out.
+    // The result reports whether the source is UTF-8, unless reading failed or memory ran out.
     ensures text { IfSome (I.left input.old) (ReportsText result) }
 
     // The source was read to its end, unless reading failed or memory ran out.

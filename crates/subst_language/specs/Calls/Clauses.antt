@@ -1,6 +1,7 @@
 -- Clauses that many calls share, about a source's value, an error's fault, or a list. Three functions
--- describe a map: `items v` is the bytes of a value v; `see v` is what v is identified with; `look_up name`
--- is `see` of the value under a name, or `None`. `fault_of e` is the fault that an error e states.
+-- describe a map. `items v` is the bytes of a value v. `see v` is what contracts identify v with: for a
+-- reference, what it points to. `look_up name` is `see` of the value under `name`, or `None`. `fault_of e` is
+-- the fault that an error e states.
 use Rattle.std.specs.Prelude.{◌≡◌, ◌≤◌, ◌<◌, ◌+◌, ℕ, List, length, map, Option, Some, Result, Vec, IfErr, IfNone, IfOk, IfSome}
 use Rattle.std.specs.List.{All, Contains}
 use Rattle.std.specs.declared.ops.Range.{Range}
@@ -22,7 +23,7 @@ use Rattle.subst_language.specs.Calls.VariableMap.{ByLookUp, ByNames}
 use Rattle.subst_language.specs.Calls.Variables.{missing_variable, variable_of}
 use Rattle.subst_language.specs.declared.variable.Variable.{Variable}
 
--- P holds of the value of the tree of the source s under the map's look-up
+-- P holds of the value that the tree of the source s has under the map's look-up
 abbrev pub ByValue : {Value Seen : Type 0} → (Value → List ℕ) → (Value → Seen) → (List ℕ → Option Seen)
     → List ℕ → (tree.Value → Type 0) → Type 0
 ByValue items see look_up s P =
@@ -97,8 +98,8 @@ abbrev pub EachIsRangedIn : {A : Type 0} → List ℕ → (A → Range ℕ) → 
 EachIsRangedIn s range list = All (λ it. IsRangeIn s (range it)) list
 
 -- The text s has this answer under a map. If the answer is bytes x, then s is a sentence. Its output is x,
--- provided that contracts can state the bytes of the map's values. If the answer is the refusal for f, s is
--- refused for f whatever values the map's names have. The range of f is then in s.
+-- provided that contracts can state the bytes of the map's values. If the answer is the refusal for f, then s
+-- is refused for f, whatever values the map's names have. The range of f is then in s.
 abbrev pub AnswersText : {Value Seen : Type 0} → (Value → List ℕ) → (Value → Seen)
     → (List ℕ → Option Seen) → List ℕ → Answer → Type 0
 AnswersText items see look_up s (Gives x) =

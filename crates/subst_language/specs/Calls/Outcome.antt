@@ -1,5 +1,5 @@
--- The outcome of a call, unless memory runs out. An error that states no fault is out of memory. `bytes_of`
--- is the function from an output, a `Vec` or a `String`, to its bytes.
+-- The outcome of a call, unless memory runs out. An error without a fault means that memory ran out.
+-- `bytes_of` is the function from an output, a `Vec` or a `String`, to its bytes.
 use Rattle.std.specs.Prelude.{◌≡◌, ◌≤◌, ℕ, List, ◌++◌, drop, length, Option, Some, None, Result, Ok, Err, IfErr, IfNone, IfSome}
 use Rattle.std.specs.Option.{option_map}
 use Rattle.subst_error.specs.Fault.{Fault}
@@ -22,13 +22,14 @@ OnFault fault_of result P = IfErr result (λ e. IfSome (fault_of e) P)
 abbrev pub OnOutOfMemory : {T E : Type 0} → (E → Option Fault) → Result T E → Type 0 → Type 0
 OnOutOfMemory fault_of result P = IfErr result (λ e. IfNone (fault_of e) P)
 
--- the output of an expansion is the bytes of the value v, or its error states the missing variable
+-- the output of an expansion is the bytes of the value v; if v is a missing variable instead, the expansion's
+-- error states it
 abbrev pub Expands : {T : Type 0} → (T → List ℕ) → Result T ExpandError → Value → Type 0
 Expands bytes_of (Ok output) v = v ≡ Bytes (bytes_of output)
 Expands bytes_of (Err e) v = IfSome (expand_fault e) (IsMissing v)
 
--- The call appends the bytes of the value v to a buffer's bytes `before`, so that they become `after`. Or the
--- error states the missing variable.
+-- The call appends the bytes of the value v to a buffer, whose bytes thereby change from `before` to `after`.
+-- If v is a missing variable instead, the error states it.
 abbrev pub ExpandsInto : {T : Type 0} → (before : List ℕ) → Result T ExpandIntoError → (after : List ℕ)
     → Value → Type 0
 ExpandsInto before (Ok done) after v = (x : List ℕ) × (v ≡ Bytes x) × (after ≡ before ++ x)
@@ -53,8 +54,8 @@ abbrev pub refusal_of : {T : Type 0} → Result T Error → Option Answer
 refusal_of (Ok output) = None
 refusal_of (Err e) = option_map Refuses (error_fault e)
 
--- The call appends the output of the source s to a buffer's bytes `before`, so that they become `after`. Or
--- the error states the fault for which s is refused.
+-- The call appends the output of the source s to a buffer, whose bytes thereby change from `before` to
+-- `after`. If s is refused instead, the error states the fault.
 abbrev pub SubstitutesInto : {T : Type 0} → (s : List ℕ) → (before : List ℕ) → Result T SubstituteIntoError
     → (after : List ℕ) → LookUp → Type 0
 SubstitutesInto s before (Ok done) after look =

@@ -1,4 +1,4 @@
--- Variables and errors of missing variables, each as a variable of the definitions.
+-- Variables in the code, and the missing variables that errors state, as variables of the definitions.
 use Rattle.std.specs.Prelude.{ℕ, string_bytes}
 use Rattle.std.specs.declared.ops.Range.{Range}
 use Rattle.subst_error.specs.declared.NoSuchVariable as errors

@@ -32,8 +32,8 @@ abbrev pub without_expected : Fault → Fault
 without_expected (UnexpectedCharacter position character expected) = UnexpectedCharacter position character []
 without_expected f = f
 
--- s reads as before: each of its trees is one in the earlier language too, and so is each of its faults,
--- except for the message
+-- s reads as before: in the earlier language it has each of its present trees too, and the same faults,
+-- except for their messages
 pub record ReadsAsBefore (s : List ℕ) : Type 0 where
   -- each tree of s is a tree of s in the earlier language too
   pub tree : (t : Tree) → Spells t s → (u : EarlierTree) × EarlierSpells u s × (t ≡ extended u)
@@ -50,6 +50,6 @@ pub record KeepsReading (s : List ℕ) : Type 0 where
   -- each earlier tree has the same value as before, at each position and under each look-up
   pub same_value : (t : EarlierTree) (p : ℕ) (look : LookUp)
       → value p (extended t) look ≡ earlier_value p t look
-  -- if s has no question mark, it reads as before: it has no other tree, and no other fault except for the
-  -- message
+  -- if s has no question mark, it reads as before: it has no new tree, and only the message of a fault may
+  -- differ
   pub no_other : ¬ (Contains s question_mark) → ReadsAsBefore s

@@ -1,9 +1,6 @@
--- Written trees of the earlier language, and the text of each. In EBNF, where the brackets of a `default`
--- match:
---   template = { item } ;
---   item     = plain | "\" special | "$" name | "${" name "}" | "${" name ":" default "}" ;
---   default  = template ;
---   name     = name byte, { name byte } ;
+-- Written trees of the earlier language, and the text of each. In EBNF, where the braces in a `default`
+-- match: template = { item } ; item     = plain | "\" special | "$" name | "${" name "}" | "${" name ":"
+-- default "}" ; default  = template ; name     = name byte, { name byte } ;
 use Rattle.std.specs.Prelude.{ℕ, List, [], ◌∷◌, ◌++◌}
 use Rattle.subst_language.specs.Language.Bytes.{dollar, colon, backslash, opening_brace, closing_brace}
 
@@ -35,7 +32,7 @@ abbrev mutual
   item_text (Braced n) = dollar ∷ opening_brace ∷ n ++ closing_brace ∷ []
   item_text (Default n t) = dollar ∷ opening_brace ∷ n ++ (colon ∷ text t ++ closing_brace ∷ [])
 
-  -- the text of a tree: those of its items, concatenated
+  -- the text of a tree: the concatenated texts of its items
   pub text : Tree → List ℕ
   text Empty = []
   text (Then item rest) = item_text item ++ text rest

@@ -24,7 +24,7 @@ pub record Variable : Type 0 where
   pub name : List ℕ
   pub kind : Kind
 
--- a required variable with this name, whose name is at this position
+-- the required variable whose name `name` is at `position`
 abbrev pub required : ℕ → List ℕ → Variable
 required position name = record { position = position; name = name; kind = Required }
 

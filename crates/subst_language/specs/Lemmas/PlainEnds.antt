@@ -3,8 +3,8 @@ use Rattle.std.specs.Prelude.{◌≡◌, Bool, false}
 use Rattle.subst_language.specs.Language.Tree.{Tree, Empty, Then}
 use Rattle.subst_language.specs.Language.Counts.{is_plain}
 
--- whether the tree's last item is plain; if the tree is empty, `after_plain`, which is whether the item
--- before it is plain
+-- whether the tree's last item is plain, or `after_plain` if the tree is empty; `after_plain` is whether the
+-- item before the tree is plain
 abbrev pub ends_plain : (after_plain : Bool) → Tree → Bool
 ends_plain after_plain Empty = after_plain
 ends_plain after_plain (Then item rest) = ends_plain (is_plain item) rest

@@ -16,7 +16,8 @@ use Rattle.subst_language.specs.Parts.Span.{IsSpan, span_bytes}
 use Rattle.subst_language.specs.declared.part.Part.{Part}
 use Rattle.subst_language.specs.declared.part.Part.TheVariants.{Literal, Escaped, Variable, Default}
 
--- the part's range is in the source s and, for a variable, is that of a name; an escaped byte is below 256
+-- the part's range is in the source s, and the range of a variable or default holds a name; an escaped byte
+-- is below 256
 abbrev pub IsInSource : List ℕ → Part → Type 0
 IsInSource s (Literal span) = IsSpan s span
 IsInSource s (Escaped b) = b < 256
@@ -79,8 +80,8 @@ parts_value parts s look = steps_value (parts_steps parts s look)
 abbrev pub parts_written : List Part → List ℕ → LookUp → List ℕ
 parts_written parts s look = steps_written (parts_steps parts s look)
 
--- the kind of a variable in braces, from the text after its name: optional if the text begins with `?`, else
--- with a default
+-- the kind of a variable that isn't required, from the text after its name: optional if the text begins with
+-- `?`, else with a default
 abbrev pub kind_before : List ℕ → Kind
 kind_before [] = variables.OrDefault
 kind_before (b ∷ rest) = if b == question_mark then variables.OrNothing else variables.OrDefault

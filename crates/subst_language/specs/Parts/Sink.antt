@@ -40,7 +40,7 @@ abbrev pub AllClosed : ℕ → List Part → Type 0
 AllClosed end parts = AllByRecursion (IsClosed end) parts
 
 -- The sink can take `part i`, where i is the number of parts that it holds. The ranges of `part i` are in the
--- source of the sink's first state, and its offsets and its `next` are below the limit.
+-- source of the sink's first state. The part's offsets and its `next` are below the limit.
 pub record CanTake {S First : Type 0} (holds : HoldsFrom S First) (source : First → List ℕ → Type 0)
     (limit : ℕ) (sink : S) (part : ℕ → Part) : Type 0 where
   pub first : First
@@ -67,8 +67,8 @@ abbrev pub HasLength : {S First : Type 0} → HoldsFrom S First → S → ℕ �
 HasLength {First = First} holds sink n = (first : First) (parts : List Part)
     → holds sink first parts → n ≡ length parts
 
--- The default with this index and name is open and can be closed: with the number of held parts as its
--- `next`, its part fits below the limit.
+-- The default with this index and name is open and can be closed. With the number of held parts as its
+-- `next`, it fits below the limit.
 pub record CanClose {S First : Type 0} (holds : HoldsFrom S First) (limit : ℕ) (sink : S) (index : ℕ)
     (name : Span) : Type 0 where
   pub first : First

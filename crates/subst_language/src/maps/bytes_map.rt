@@ -5,8 +5,8 @@ use std::convert::AsSlice;
 
 /// A map of bytes: contracts can state the bytes of each value. The trait adds no method.
 ///
-/// Contracts of code that is generic in the map see it as a look-up of bytes. An implementation has two ghost
-/// members:
+/// In contracts of code that is generic in the map, the map is a look-up of bytes. An implementation has two
+/// ghost members:
 ///
 /// - `look_up_bytes`: the look-up of the bytes of each variable's value.
 /// - `reads`: a proof that `look_up_bytes` has the bytes of the values of `look_up`.

@@ -219,8 +219,8 @@ impl<'a> ByteTemplate<'a> {
         expand_into_slice::<M, SliceBytes>(self.source, &self.parts, variables, slice)
     }
 
-    /// Returns the variables of the source, with the byte offset of each name and its kind, in the order of
-    /// the source. Those in defaults are included. A name that occurs twice is listed twice.
+    /// Returns the variables of the source, each with its kind and the byte offset of its name, in the order
+    /// of the source. Those in defaults are included. A name that occurs twice is listed twice.
     ///
     /// # Errors
     ///

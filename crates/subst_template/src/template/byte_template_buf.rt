@@ -153,7 +153,7 @@ impl ByteTemplateBuf {
         ensures kept { OnErr result (output.new.items ≡ output.old.items) }
         ensures capacity { vec_capacity output.old ≤ vec_capacity output.new }
 
-        // Out of memory only if the capacity is less than the bytes written.
+        // Memory runs out only if the spare capacity is less than the bytes written.
         ensures full { ByWritten M.Value.items M.see (M.look_up variables.now) self.now
             (Overflows (vec_capacity output.old) (vec_len output.old) result) }
         ensures sentence { IsSentence self.now }

@@ -91,7 +91,7 @@ impl<'a> Template<'a> {
         ensures value { ByValue M.Value.text M.see (M.look_up variables.now) self.now
             (Expands (λ output. string_bytes output) result) }
 
-        // For any map, the source has a tree. An error states the variable that the tree's evaluation misses,
+        // For any map: the source is a sentence, and an error states the source's first missing variable,
         // with a range in the source.
         ensures sentence { IsSentence self.now }
         ensures missing { Misses (M.look_up variables.now) self.now expand_fault result }
