@@ -112,6 +112,7 @@ impl StyleRecord<'_> {
 
 /// The names that are variables by `choice`: all, the names of `only`, or the names with a value in `given`.
 /// With [`Choice::Known`], all names in forms with an operator are variables too.
+/// With [`Choice::Known`], all names in forms with an operator are variables too.
 #[derive(Drop)]
 struct ChosenNames<'o, 'g> {
     choice: Choice,

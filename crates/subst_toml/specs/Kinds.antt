@@ -8,7 +8,8 @@ abbrev pub is_literal : ℕ → Bool
 is_literal b = is_non_eol b && not (b == apostrophe)
 
 -- The token's kind of string can spell the value. An empty value doesn't fit: a backslash at a line's end
--- before it would leave out the white space after it too. In single quotes each byte has to be literal.
+-- before the value would also leave out white space after the value. In single quotes each byte has to be
+-- literal.
 abbrev pub fits : List ℕ → List ℕ → Bool
 fits token value =
     not (length value == 0) && (if first token == apostrophe then list_all is_literal value else true)

@@ -40,7 +40,7 @@ pub record AreAllRefused (ask : List ℕ → Answer → Type 0) (source : List �
     : Type 0 where
   -- each refusal has its string's span, and a path that leads to the string
   pub each : AreRefusedIn ask source all
-  -- they are the refusals of the document's strings, in order; each other string has an output
+  -- `all` are the refusals of the document's strings, in order; each other string has an output
   pub refused : AreAllRefusals ask source (map refusal_in all)
   -- each span spells its string, and each path leads to that string in the tree of `source`
   pub found : ReadsAsTree source (λ d. AllByRecursion (IsFound source d) all)

@@ -21,8 +21,8 @@ use Rattle.subst_toml.specs.declared.error.Error.TheVariants.{InvalidUtf8, Toml,
 abbrev pub ReadsAsTree : List ℕ → (Data → Type 0) → Type 0
 ReadsAsTree text P = (ms : Members) × (parse_document text ≡ Some ms) × P (table ms)
 
--- `text` is the printed table, and is read as the table unless the table nests too deep. If the table has a
--- date that no text can hold, `text` isn't a document.
+-- `text` is the printed table. If the table has a date that no text can hold, `text` isn't a document.
+-- Otherwise `text` is read as the table, unless the table nests too deep.
 abbrev pub IsPrinted : Members → List ℕ → Type 0
 IsPrinted ms text =
     (members_have_valid_dates ms ≡ false → parse_document text ≡ None)

@@ -14,8 +14,8 @@ abbrev pub between : List ℕ → List ℕ → List ℕ
 between quotes piece =
     quotes ++ ((if length quotes == 3 then line_feed ∷ [] else []) ++ (piece ++ quotes))
 
--- The text s between two positions, put between `quotes`, is read as the part of the string x between the
--- positions.
+-- A piece of the text s, put between `quotes`, is read as a part of the string x. The piece and the part
+-- begin at `from` and end at `to`.
 pub record IsPiece (s : List ℕ) (token : Range ℕ) (quotes x : List ℕ) (from to : Position) : Type 0 where
   pub within : IsRangeIn s (record { start = from.place; end = to.place })
   pub forwards : from.place ≤ to.place

@@ -31,9 +31,9 @@ IsInNewline x offset =
     (length x ≡ offset + 1) × (slice_index x (offset - 1) ≡ carriage_return)
     × (slice_index x offset ≡ line_feed)
 
--- `place` is within the token at `token`, whose string has `range`. If the token ended at the start of
--- `place`, its string would end at the start of `range`. If it ended at the end of `place`, its string would
--- end at the end of `range`, or after the newline inside which `range` ends.
+-- `place` is within the token at `token`, and `range` ends within the token's string. If the token ended at
+-- the start of `place`, its string would end at the start of `range`. If it ended at the end of `place`, its
+-- string would end at the end of `range`, or after the newline inside which `range` ends.
 abbrev pub IsPlaceIn : List ℕ → Range ℕ → Range ℕ → Range ℕ → Type 0
 IsPlaceIn s token range place =
     IsRangeIn s place × (token.start ≤ place.start) × (place.start ≤ place.end) × (place.end ≤ token.end)

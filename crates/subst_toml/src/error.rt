@@ -90,8 +90,8 @@ impl fmt::Display for Error {
 
     ghost output = { display_of_toml };
 
-    // `writes` doesn't state a text that quotes a non-ASCII character, which may be escaped or not. If a
-    // string is refused, `text` states that the error's text has one of these two forms.
+    // If the error's text quotes a non-ASCII character, `writes` doesn't state the text, since the character
+    // may be escaped or not. If a string is refused, `text` states the error's text up to this choice.
     fn fmt<W: fmt::Write>(&self, f: &mut fmt::Formatter<W>) -> fmt::Result
         ensures writes { DisplaysOnOk W.write_str_gives f.old result
             (display_of_toml self.now) f.new }

@@ -88,8 +88,8 @@ where
     Ok(())
 }
 
-/// Reads a TOML document, and fills in the strings of its tree, a table, from `variables`, whose values are
-/// texts.
+/// Reads a TOML document, and fills in the strings of its tree from `variables`, whose values are texts. The
+/// tree is a table.
 ///
 /// ```rust
 /// let tree = toml::value_from_str(alloc, "home = '${home:/root}/.config'", &NoSubstitution)?;

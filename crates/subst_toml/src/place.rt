@@ -72,7 +72,8 @@ pub fn place_in(
     }
 }
 
-/// Returns the string that `range` of `source`, closed by `quotes`, spells, or `None` if it spells no string.
+/// Returns the string spelled by the text at `range` in `source` with `quotes` appended, or `None` if it
+/// spells no string.
 pub(crate) fn read_up_to(
     alloc: Global,
     source: &str,

@@ -28,13 +28,13 @@ impl Token<'_> {
         Style::of(self.quotes)
     }
 
-    /// Returns the token's content from an offset in the source on, without the closing quotes.
+    /// Returns the token's content from the offset `from` in the source up to the closing quotes.
     fn content(&self, from: usize) -> Option<&str> {
         let end = self.span.end.checked_sub(self.quotes.len())?;
         self.source.get(from..end)
     }
 
-    /// Returns the offset in the source at which `rest`, the end of the token's content, begins.
+    /// Returns the offset in the source at which `rest` begins. `rest` is the end of the token's content.
     fn place_of(&self, rest: &str) -> Option<usize> {
         let end = self.span.end.checked_sub(self.quotes.len())?;
         end.checked_sub(rest.len())

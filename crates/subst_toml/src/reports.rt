@@ -78,7 +78,8 @@ impl ReportFormat for TomlReports {
     }
 }
 
-/// Returns all refused strings, or `None` if one isn't confirmed or the source isn't a document.
+/// Returns all refused strings, or `None` if the path or span of one isn't confirmed, or if the source isn't
+/// a document.
 ///
 /// # Errors
 ///

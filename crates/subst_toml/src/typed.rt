@@ -1,7 +1,7 @@
 //! Conversion of a tree into a type of the caller's. The kit's `toml` reads types only from texts, so the
-//! tree is printed, and the type is read from the printed text. The conversion gets no variables. A tree that
-//! nests at most 80 deep is read back from the text. If a tree has a date that no text can hold, the text
-//! isn't TOML.
+//! tree is printed, and the type is read from the printed text. The conversion gets no variables. If the tree
+//! has a date that no text can hold, the printed text isn't TOML. Otherwise reading the printed text yields
+//! the same tree, provided that the tree nests at most 80 deep.
 
 ghost use Rattle.std.specs.Prelude.{◌≡◌, ◌≤◌, false, true, None, Some, Result, IfErr, IfOk, List, ℕ, string_bytes};
 ghost use Rattle.toml.specs.Data.{members_depth, members_have_valid_dates};
@@ -18,8 +18,8 @@ use toml::{Table, ser};
 /// A type that a text can be converted into: any that `serde` deserializes.
 pub trait FromText: Sized + Drop {
     // The relation of a text and the possible results of its conversion. For the types of `serde`, it is only
-    // known that the span of an error is within the text. A contract that holds for every such relation still
-    // states which text is converted.
+    // known that the span of an error is within the text. Even so, a contract that holds for every such
+    // relation states which text is converted.
     ghost reads: { List ℕ → Result Self Error → Type 0 };
 
     /// Converts a text, or returns an error if it isn't a document or doesn't fit this type.
@@ -38,8 +38,9 @@ impl<T: DeserializeOwned> FromText for T {
 /// A text that isn't a document: its date has no month.
 const NO_DATE: &str = "date = 0000-00-00\n";
 
-/// Returns a table as a text that is read as this table, unless the table nests more than 80 deep. If the
-/// table has a date that no text can hold, the text isn't a document. No table that was read has such a date.
+/// Returns a table as text. If the table has a date that no text can hold, the text isn't a document.
+/// Otherwise reading the text yields the same table, provided that the table nests at most 80 deep. A table
+/// that was read from a text has only dates that a text can hold.
 pub(crate) fn printed(alloc: Global, table: &Table) -> Result<String, AllocError>
     ensures dates { IfOk result (λ text. members_have_valid_dates (table_view table.now) ≡ false
         → parse_document (string_bytes text) ≡ None) }

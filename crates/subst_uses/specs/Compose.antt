@@ -22,8 +22,8 @@ abbrev pub IsValueOf : LookUp → (s : List ℕ) → Given → Type 0
 IsValueOf look s given = (items : text.Text) × text.IsText compose false items [] × (s ≡ text.spelling items)
     × (text.text_value Shell Nothing items look ≡ given)
 
--- the fault states the missing variable of the text s; the name in the fault may begin with a digit that a
--- `ShellMap` reads
+-- the fault states the missing variable of the text s; in the fault, a digit may precede the variable's name,
+-- as in a question to a `ShellMap`
 abbrev pub IsMissingOf : LookUp → (s : List ℕ) → Fault → Type 0
 IsMissingOf look s f = (position : ℕ) × (name : List ℕ) × (f ≡ NoSuchVariable position name)
     × IsValueOf look s (Err (without_question name))

@@ -23,7 +23,7 @@ report_of file e s =
     Some file ++? Some (codes ":") ++? Some (decimal place.0) ++? Some (codes ":") ++? Some (decimal place.1)
     ++? Some (codes ": ") ++? display_of_error e ++? Some (codes "\n") ++? Some (highlighting_of e s)
 
--- the text is the report of a fault, if `report_of` has one
+-- the text is the report of a fault; nothing is stated if `report_of` is `None`
 abbrev pub IsReport : List ℕ → Option Fault → List ℕ → List ℕ → Type 0
 IsReport file e s text = IfSome (report_of file e s) (λ shown. text ≡ shown)
 

@@ -9,7 +9,7 @@ use std::alloc::Global;
 use subst::foreign::{AllNames, Forms, Missing, Style, TextError};
 use subst::{Env, Error, ShellMap, substitute};
 
-/// The error of a text of Docker Compose. Each case may also be that memory ran out.
+/// The error of a text of Docker Compose. Either case may also wrap an allocation failure.
 #[derive(Debug, Drop)]
 pub enum ComposeError {
     /// A form of the text is refused.

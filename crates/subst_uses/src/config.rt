@@ -16,7 +16,7 @@ use subst::{Env, Layered, json};
 pub enum Loaded<T> {
     /// The configuration, with its strings filled in.
     Configuration(T),
-    /// The errors of the file, as reported by `report` of its format.
+    /// The report of the file's errors, made by the function `report` of `json` or `toml`.
     Report(String),
 }
 

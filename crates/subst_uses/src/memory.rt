@@ -7,7 +7,7 @@ use std::alloc::AllocError;
 use subst::Error;
 use subst::error::ExpandError;
 
-/// Returns the allocation error of a substitution whose error states no fault.
+/// Returns the allocation error in `e`, the error of a substitution. `e` must not state a fault.
 pub fn of_substituting(e: Error) -> AllocError
     requires { error_fault e ≡ None }
 {
@@ -17,7 +17,7 @@ pub fn of_substituting(e: Error) -> AllocError
     }
 }
 
-/// Returns the allocation error of an expansion whose error states no fault.
+/// Returns the allocation error in `e`, the error of an expansion. `e` must not state a fault.
 pub fn of_expanding(e: ExpandError) -> AllocError
     requires { expand_fault e ≡ None }
 {

@@ -13,7 +13,7 @@ use subst::Error;
 pub enum Outcome {
     /// The output of the text.
     Output(String),
-    /// For each error `file:line:column: fault`, followed by its line, underlined.
+    /// For each error, `file:line:column: fault`, and then the source line with the error's range underlined.
     Report(String),
 }
 

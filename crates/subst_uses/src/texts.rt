@@ -32,7 +32,8 @@ pub fn kept(alloc: Global, source: &str) -> Result<TemplateBuf, ParseError>
     Ok(TemplateBuf::from_template(alloc, &template)?)
 }
 
-/// Returns a copy of a template, made from a `Template` that borrows from a clone.
+/// Returns a copy of a template. The copy is made from a `Template` that borrows from a clone of the
+/// template.
 pub fn copied(alloc: Global, template: &TemplateBuf) -> Result<TemplateBuf, AllocError>
     ensures { IfOk result (λ copy. copy ≡ template.now) }
 {

@@ -12,11 +12,11 @@ pub enum Answer {
     Gives(Vec<u8>),
     /// The fault of the source or of the first refused string, or a missing variable.
     Refuses(Error),
-    /// The source isn't JSON, TOML or UTF-8. The text names the error: `Json`, `Toml` or `InvalidUtf8`.
+    /// The source can't be read. The text names the error: `Json`, `Toml` or `InvalidUtf8`.
     IsNot(&'static str),
     /// The column of the variables and the column of the missing ones, separated by a tab.
     Lists(String),
-    /// A property that every answer must have, and this one lacks.
+    /// The answer lacks a property that every answer must have. The text describes the defect.
     Breaks(&'static str),
 }
 

@@ -99,7 +99,7 @@ fn owner_into(
     ways.added("ByteTemplateBuf::expand_into", &output, filled)
 }
 
-/// Makes the calls by templates that are borrowed from an owner, and adds their answers.
+/// Expands templates that borrow from an owner, and adds the answers.
 fn borrowed(owner: &ByteTemplateBuf, values: &Values, ways: &mut Ways) -> Result<(), AllocError> {
     ways.bytes(
         "as_template",
@@ -113,7 +113,7 @@ fn borrowed(owner: &ByteTemplateBuf, values: &Values, ways: &mut Ways) -> Result
     ways.bytes("ByteTemplate::clone", clone.expand(ways.alloc, values))
 }
 
-/// Makes the calls by copies that own the source, and adds their answers.
+/// Expands copies that own the source, and adds the answers.
 fn copies(owner: &ByteTemplateBuf, values: &Values, ways: &mut Ways) -> Result<(), AllocError> {
     let (source, borrowed) = (owner.source(), owner.as_template());
     let copy = ByteTemplateBuf::from_template(ways.alloc, &borrowed)?;

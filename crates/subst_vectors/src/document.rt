@@ -44,8 +44,9 @@ fn call_text<F: Format>(text: &str, values: &Texts, ways: &mut Ways) -> Result<(
     }
 }
 
-/// Returns whether the list of a text's faults agrees with two other results. The list must be empty exactly
-/// if the text is filled in. If the tree is refused, its fault must be in the list.
+/// Returns whether `refusals`, the list of a text's faults, agrees with `filled` and `of_tree`. The list must
+/// be empty exactly if the text is filled in. If the tree is refused, its fault must be in the list. Without
+/// a list, `filled` must be an error.
 fn are_as_refused<E>(
     refusals: &Result<Option<Vec<Error>>, E>,
     filled: &Result<Option<String>, E>,
@@ -84,8 +85,8 @@ fn answer<F: Format>(alloc: Global, read: Result<F::Tree, F::Error>) -> Result<A
     }
 }
 
-/// Reads a filled-in text as a tree, and returns the answer. If text and tree are both refused and keys may
-/// be equal, returns the fault of the tree. The text's fault may be that of another string.
+/// Reads a filled-in text as a tree, and returns the answer. If text and tree are both refused and
+/// `F::HAS_EQUAL_KEYS` holds, returns the tree's fault, since the text's fault may be that of another string.
 fn read_again<F: Format>(
     alloc: Global,
     filled: Result<Option<String>, F::Error>,

@@ -74,7 +74,7 @@ fn by_owner(source: &str, values: &Values, ways: &mut Ways) -> Result<(), AllocE
 }
 
 /// Returns whether the missing variables agree with `filled`, the result of an expansion. If `filled` is an
-/// output, none may be missing. Otherwise the first missing variable must be its fault.
+/// output, `missing` must be empty. Otherwise the first missing variable must be the fault in `filled`.
 pub fn is_as_refused(missing: &[NoSuchVariable], filled: &Result<Vec<u8>, Error>) -> bool {
     match (missing.first(), filled) {
         (None, Ok(_)) => true,

@@ -1,4 +1,4 @@
-//! Runs the rows of files by every call: `subst_vectors FILE..`.
+//! Checks each row of the files with the calls for the row's kind: `subst_vectors FILE..`.
 //!
 //! `data/README.md` describes the rows. For each file, the program prints how many rows hold, or each row
 //! that doesn't, with the expected answer, the actual one, and the call. The exit status is 1 if a row

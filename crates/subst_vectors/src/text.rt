@@ -60,7 +60,7 @@ fn owner_into(template: &TemplateBuf, values: &Texts, ways: &mut Ways) -> Result
     ways.added("TemplateBuf::expand_into", output.as_bytes(), filled)
 }
 
-/// Makes the calls by templates that are borrowed from an owner, and adds their answers.
+/// Expands templates that borrow from an owner, and adds the answers.
 fn borrowed(owner: &TemplateBuf, values: &Texts, ways: &mut Ways) -> Result<(), AllocError> {
     ways.text(
         "as_template",
@@ -74,7 +74,7 @@ fn borrowed(owner: &TemplateBuf, values: &Texts, ways: &mut Ways) -> Result<(), 
     ways.text("Template::clone", clone.expand(ways.alloc, values))
 }
 
-/// Makes the calls by copies that own the source, and adds their answers.
+/// Expands copies of `owner` that own their source, and adds the answers.
 fn copies(owner: &TemplateBuf, values: &Texts, ways: &mut Ways) -> Result<(), AllocError> {
     let (source, borrowed) = (owner.source(), owner.as_template());
     let copy = TemplateBuf::from_template(ways.alloc, &borrowed)?;

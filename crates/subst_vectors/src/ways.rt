@@ -91,7 +91,7 @@ impl Ways {
     }
 
     /// Adds a call that appended to an output with the contents `BEFORE`, and its answer. `output` is the
-    /// output after the call, which an error must leave unchanged.
+    /// contents after the call, which must equal `BEFORE` if the call failed.
     pub fn added(
         &mut self,
         name: &'static str,

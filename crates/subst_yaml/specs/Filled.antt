@@ -115,9 +115,9 @@ is_block _ = false
 abbrev pub is_unblocked : Style → Style → Bool
 is_unblocked style other = is_block style && not (is_block other)
 
--- The bytes that must directly follow the token of the second event in the output. If both events are values,
--- and only the first is after `|` or `>`, these bytes are the comment and line end of its header. Otherwise
--- there are none.
+-- The bytes that the output must have directly after the second event's token. The first event is from
+-- `source`, the second from the output. If both are values, and only the first has `|` or `>`, these bytes
+-- are the comment and line end of its header. Otherwise there are no such bytes.
 abbrev pub rest_of_value : (source : List ℕ) → Event → Event → List ℕ
 rest_of_value source (Value style span in_flow indent) (Value other_style other other_in_flow other_indent) =
     if is_unblocked style other_style then header_rest (token_at source span) else []

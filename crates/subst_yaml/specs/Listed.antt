@@ -64,7 +64,7 @@ abbrev pub found_in : (text : List ℕ) → Trail → List Event → List Found
 found_in text trail [] = []
 found_in text trail (e ∷ es) = found_at text trail e ++ found_in text (after_event trail e) es
 
--- a value that may change has this token, which spells the string x
+-- `token` is the token of a value that may change, and spells the string x
 abbrev pub IsValueToken : (token x : List ℕ) → Type 0
 IsValueToken token x =
     (style : Style) × (indent : ℕ) × (may_change style token ≡ true) × (string_of style indent token ≡ Some x)
@@ -112,7 +112,8 @@ AreRefusalsOf ask (it ∷ rest) refusals =
     ⊎ ((refusal : RefusalAt) × (more : List RefusalAt) × (refusals ≡ refusal ∷ more)
     × IsRefusalOf ask it refusal × AreRefusalsOf ask rest more)
 
--- The span and the path of the refused string are right.
+-- The token at the span of `it` in `source` spells the refused string, and the path leads to a value with
+-- this string.
 pub record IsRefusedAt (source : List ℕ) (it : RefusalAt) : Type 0 where
   pub spelled : IsSpelledAt source it.span (string_bytes it.text)
   pub leads : Leads source (path_of it.path) (string_bytes it.text)

@@ -10,8 +10,8 @@ use Rattle.subst_yaml.specs.declared.change.Change.{Change}
 use Rattle.subst_yaml.specs.declared.change.Change.TheVariants.{Kept, Replaced}
 use Rattle.subst_yaml.specs.declared.compared.Positions.{Positions}
 
--- the code's `Change` is right for the value of a token of this style; `indent` is the number of spaces
--- before each line of a block scalar
+-- the code's `Change` is that of the value with the style `style` and the token `token`; `indent` is the
+-- number of spaces before each line of a block scalar
 abbrev pub IsChangeOf : (ask : List ℕ → Answer → Type 0) → Style → (indent : ℕ) → (token : List ℕ)
     → Change → Type 0
 IsChangeOf ask style indent token Kept = Stays ask style indent token
@@ -39,7 +39,8 @@ AllStay ask text [] = ⊤
 AllStay ask text (e ∷ es) = StaysAt ask text e × AllStay ask text es
 
 -- The event f of `output` is the event e of `source` filled in, and the bytes from the positions `at` to both
--- tokens are equal. Both texts continue at the positions `next`, after the tokens and the rest of a header.
+-- tokens are equal. In `output`, the bytes of `rest_of_value` follow the token. The positions `next` are
+-- after the token in `source`, and after these bytes in `output`.
 pub record IsFilledTo (ask : List ℕ → Answer → Type 0) (source output : List ℕ) (at : Positions) (e f : Event)
     (next : Positions) : Type 0 where
   pub event : IsFilledEvent ask source output e f

@@ -23,7 +23,8 @@ pub record Path : Type 0 where
 abbrev pub path_of : code.Path → Path
 path_of path = record { document = path.document; steps = map step_of path.steps.items }
 
--- the displayed text of a step: `dot` and then a key as it is written, or an index in brackets
+-- the displayed text of a step: for a key, `dot` and the key as it is written; for an index, the index in
+-- brackets
 abbrev pub step_text : (dot : List ℕ) → PathStep → List ℕ
 step_text dot (Key key) = dot ++ key
 step_text dot (Index i) = codes "[" ++ (decimal i ++ codes "]")
@@ -71,7 +72,7 @@ with_steps steps trail = record { document = trail.document; steps = steps }
 abbrev pub stepped : (depth : ℕ) → StepAt → Trail → Trail
 stepped depth next trail = with_steps (take (depth - 1) trail.steps ++ next ∷ []) trail
 
--- the index of the item after this step: one more after an item without brackets, and otherwise 0
+-- the index of the item after a step: i + 1 after the item i of a sequence without brackets, and otherwise 0
 abbrev pub next_index : Option StepAt → ℕ
 next_index (Some (step.Item i)) = i + 1
 next_index (Some (step.Key span)) = 0
@@ -93,8 +94,8 @@ left trail = with_steps (take (length trail.steps - 1) trail.steps) trail
 abbrev pub last_step : Trail → Option StepAt
 last_step trail = slice_get trail.steps (length trail.steps - 1)
 
--- the trail after a value, from the last step of the trail: an item in brackets is replaced by the next one,
--- and any other step is kept
+-- the trail after a value: if its last step, the first argument, is an item in brackets, the next item
+-- replaces it; any other step is kept
 abbrev pub past : Option StepAt → Trail → Trail
 past (Some (step.Member i)) trail = entered (step.Member (i + 1)) (left trail)
 past (Some (step.Key span)) trail = trail

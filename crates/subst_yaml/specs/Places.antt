@@ -55,8 +55,8 @@ value_at token style in_flow indent =
 
 -- `token` is the range of a value's token in the text s, and the `places` spell the `ranges` of the value's
 -- string. With sentinels at both ends of each place, the token is read as the string with sentinels at both
--- ends of each range. For this, the ranges in `short` are used: each may lack white space at its end, since a
--- line may end there.
+-- ends of each range in `short`. The ranges in `short` are the `ranges`, each perhaps without white space at
+-- its end, since a line may end there.
 pub record ArePlacesIn (s : List ℕ) (token : Range ℕ) (ranges places : List (Range ℕ)) : Type 0 where
   pub style : Style
   pub in_flow : Bool

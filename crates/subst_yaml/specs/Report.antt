@@ -13,7 +13,7 @@ use Rattle.subst_yaml.specs.declared.error.Error.{Error}
 use Rattle.subst_yaml.specs.declared.error.Error.TheVariants.{Yaml, Subst, OutOfMemory}
 use Rattle.subst_yaml.specs.declared.error.Fault.{Fault}
 
--- `text` is the report of the refused string `it` of s, the text of `file`
+-- `text` is the report of `it`, a refused string of s; s is the text of `file`
 abbrev pub ReportsRefused : (file s : List ℕ) → RefusalAt → List ℕ → Type 0
 ReportsRefused file s it text =
     ReportsFault IsPlaceIn file s (path_text (path_of it.path)) it.span (error_fault it.error) text

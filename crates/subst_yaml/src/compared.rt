@@ -296,7 +296,7 @@ fn read_of<T>(read: Result<T, subst_yaml_reader::Error>) -> Result<Option<T>, Al
     }
 }
 
-/// Returns whether both events are `None`, and two texts are equal from these positions on.
+/// Returns whether both events are `None`, and the two texts are equal from the positions `at` on.
 fn are_over(texts: Texts<'_>, at: Positions, event: Option<Event>, other: Option<Event>) -> bool
     ensures { IsTrue result → (event ≡ None) × (other ≡ None)
         × (drop at.output texts.entry.output.now ≡ drop at.source texts.entry.source.now) }
@@ -304,7 +304,7 @@ fn are_over(texts: Texts<'_>, at: Positions, event: Option<Event>, other: Option
     event.is_none() && other.is_none() && have_same_ends(texts, at)
 }
 
-/// Returns whether two texts are equal from these positions on.
+/// Returns whether the two texts are equal from the positions `at` on.
 fn have_same_ends(texts: Texts<'_>, at: Positions) -> bool
     ensures { IsTrue result → drop at.output texts.entry.output.now
         ≡ drop at.source texts.entry.source.now }

@@ -19,7 +19,7 @@ use std::alloc::{AllocError, Global};
 use subst_document::Fill;
 use subst_yaml_reader::{Event, Events, Span};
 
-/// The output up to the end of some value of the source.
+/// The output up to the end of the last changed value. It is empty until a value changes.
 #[derive(Drop)]
 struct Output {
     text: Vec<u8>,

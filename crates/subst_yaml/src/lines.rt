@@ -143,8 +143,8 @@ fn between<'t>(token: &'t [u8], quote: &str) -> Option<&'t str> {
     text.strip_prefix(quote)?.strip_suffix(quote)
 }
 
-/// Returns the text of a line without the white space at its end. In double quotes, a backslash before the
-/// white space escapes the line end, and is removed too.
+/// Returns the text of a line without the white space at its end. In double quotes, a backslash that escapes
+/// this white space or the line end is removed too.
 fn words_of(style: Style, text: &str) -> &str {
     let words = text.trim_ascii_end();
     let backslashes = words

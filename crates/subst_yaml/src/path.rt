@@ -9,7 +9,7 @@ use std::fmt;
 use std::fmt::Write;
 use subst_document::PathStep;
 
-/// The path to a value of a text. It displays as keys with dots between them and indices in brackets, such as
+/// The path to a value of a text. It displays as keys separated by dots, and indices in brackets, such as
 /// `services.web.ports[0]`. From the second document on, the number of the document and a colon come first,
 /// as in `2:kind`. The colon is left out if the value is the whole document.
 #[derive(Clone, Debug, PartialEq, Eq, Drop)]

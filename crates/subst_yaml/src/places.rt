@@ -1,6 +1,6 @@
-//! Finds the spans in a text that spell parts of a string. Each is confirmed: a byte that no text contains, a
-//! sentinel, is put at both ends of the span in the token. Then the token is read, and its string has to have
-//! sentinels at both ends of the part.
+//! Finds the spans in a text that spell parts of a string. Each span is confirmed: a sentinel, a byte that no
+//! text contains, is inserted into the token at both ends of the span. This token is then read, and the
+//! resulting string has to have sentinels at both ends of the part.
 
 ghost use Rattle.std.specs.Prelude.{◌≡◌, ◌≤◌, ◌++◌, ℕ, Bool, List, IfOk, IfSome, IsTrue, length, slice_range};
 ghost use Rattle.std.specs.List.{list_all, All, AllZip, Contains};
@@ -232,7 +232,8 @@ fn is_white_space(bytes: &[u8]) -> bool
     bytes.iter().all(|byte| is_white(*byte))
 }
 
-/// Returns whether `short` is `range`, perhaps without white space at its end, and is in the string.
+/// Returns whether `short` is `range`, or `range` without white space at its end. `range` also has to be in
+/// the string.
 fn is_shortened(string: &[u8], range: &Range<usize>, short: &Range<usize>) -> bool
     ensures { IsTrue result → IsShortened string.now range.now short.now }
 {

@@ -20,13 +20,13 @@ use subst_language::VariableMap;
 use subst_yaml_reader::Span;
 
 /// Returns the report of `e`, an error that a call of this crate returned for `source` and `variables`. The
-/// report names `file` as the file of this text.
+/// report names `file` as the file of `source`.
 ///
-/// If a string is refused, every refused string is reported, in the order of the text. The report of each is
-/// a line `FILE:LINE:COLUMN: PATH: fault`, and the underlined line of the text if `error::underline` of
-/// `subst` returns one. If the reader refuses the text, its message is reported in the same form, without a
-/// path. If the place of a fault isn't confirmed, the fault is reported as `FILE: PATH: fault`; no text is
-/// known for which that happens.
+/// If a string is refused, every refused string is reported, in the order of the strings in `source`. The
+/// report of each is a line `FILE:LINE:COLUMN: PATH: fault`, and the underlined line of the text if
+/// `error::underline` of `subst` returns one. If the reader refuses the text, its message is reported in the
+/// same form, without a path. If the place of a fault isn't confirmed, the fault is reported as `FILE: PATH:
+/// fault`; no text is known for which that happens.
 ///
 /// ```text
 /// web.yaml:1:8: user: ..

@@ -126,8 +126,9 @@ fn sign_of(token: &[u8]) -> Option<u8> {
     }
 }
 
-/// Returns a value without its last line end, as the lines of a block scalar with the header of `token`. The
-/// result is `None` if the sign in this header, or its absence, doesn't fit the value's end.
+/// Returns the lines of a block scalar with this value and the header of `token`: the value without its last
+/// line end, if any. The header's sign has to be `-` if the value doesn't end in a line end, and absent if it
+/// does. Otherwise the result is `None`.
 fn lines_of<'v>(value: &'v str, token: &[u8]) -> Option<&'v str> {
     match sign_of(token) {
         Some(b'-') if !value.ends_with("\n") => Some(value),
@@ -274,7 +275,7 @@ fn append_escaped(output: &mut Vec<u8>, character: char) -> Result<(), AllocErro
     }
 }
 
-/// Appends words as they are written in a style with quotes or without, but not the quotes around the words.
+/// Appends the spelling of `words` in a quoted or unquoted style, without the quotes around it.
 ///
 /// # Errors
 ///

@@ -3,7 +3,8 @@
 use std::alloc::{AllocError, Global};
 use subst_yaml_reader::{Bracket, Error, Event, Span, Style, read, value_of};
 
-/// Returns the events of a document as lines, and the line `end`, or one line with its refusal.
+/// Returns a line for each event of a document, and then the line `end`. If the document is refused, the
+/// result is one line with the refusal.
 pub(crate) fn shown(alloc: Global, document: &str) -> Result<String, AllocError> {
     let mut lines = String::new(alloc);
     match read(alloc, document) {

@@ -15,8 +15,9 @@ impl<R: Abort + AllocGlobal> Testing for R {}
 ///
 /// - `doc`: a document
 /// - `i`: an item, with its depth
-/// - `k`: a key, outside brackets with its depth
-/// - `v`: a value, or in brackets `f`
+/// - `k`: a key, with its depth if it is outside brackets
+/// - `v`: a value outside brackets
+/// - `f`: a value in brackets
 /// - `[`, `{` and `(`: the start of a sequence, a mapping or a pair in brackets
 /// - `)`: the end of any of these
 /// - `~`: a missing value

@@ -12,7 +12,8 @@ trait Testing: Abort + AllocGlobal {}
 
 impl<R: Abort + AllocGlobal> Testing for R {}
 
-/// Texts with unset variables, and for each refused string the line, the column and the text of its fault.
+/// Texts with unset variables, and for each refused string the line and the column of its fault, and the text
+/// there.
 const FAULTS: [(&'static str, &'static str); 40] = [
     ("$X", "1:2=X"),
     ("a: $X", "1:5=X"),

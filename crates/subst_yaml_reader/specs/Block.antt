@@ -28,13 +28,13 @@ Turn = Option (State × List ℕ)
 abbrev pub moved : Spot → State → Turn
 moved spot s = Some (placed spot.0 spot.1 s, spot.2)
 
--- the result of a turn that ends in the state s and at `rest`, past its leading blanks, comments and empty
--- lines
+-- the result of a turn that ends in the state s; the next token is after the blanks, comments and line ends
+-- at the start of `rest`
 abbrev pub after_token : List ℕ → State → Turn
 after_token rest s = moved (after_gap s.line rest) s
 
--- the result of a turn that ends in the state s and at the start of the line `rest`, past empty lines and
--- comments
+-- the result of a turn that ends in the state s; the next token is after the spaces, comments and empty lines
+-- at the start of `rest`, which begins a line
 abbrev pub after_line : List ℕ → State → Turn
 after_line rest s = moved (first_of (after_lines true false (length rest) rest)) s
 
@@ -122,7 +122,8 @@ block_scalar properties b s rest text = do
 abbrev pub keyed_block : Style → Span → State → State
 keyed_block style span s = with_next next.Value (emit (Key (length s.blocks) style span) s)
 
--- the state in which a node of this role is a key, if it can be; in the role `Open`, it begins a mapping
+-- the state in which a key of this role is read, or `None` if a node of this role can't be a key; in the role
+-- `Open`, the key begins a mapping
 abbrev pub opened_for : Role → State → Option State
 opened_for (Open column) s = Some (push_block Mapping column s)
 opened_for Entry s = Some s

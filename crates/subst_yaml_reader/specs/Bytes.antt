@@ -126,7 +126,7 @@ abbrev pub is_apart : List ℕ → Bool
 is_apart [] = true
 is_apart (b ∷ rest) = is_blank b || is_line_end b
 
--- the text begins with this byte, followed by white space or the end: `- ` of an item, `? ` of a key
+-- the text begins with this byte, followed by white space or the end, like the `- ` of an item
 abbrev pub is_mark : ℕ → List ℕ → Bool
 is_mark b [] = false
 is_mark b (first ∷ rest) = first == b && is_apart rest

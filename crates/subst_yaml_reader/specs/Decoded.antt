@@ -1,5 +1,5 @@
--- Decoding of scalars: from a token to its text. Each byte of a token decodes to a piece of the value, which
--- may be nothing.
+-- Decoding of scalars, from a token to its value. Each byte of a token decodes to a piece of the value, or to
+-- nothing.
 use Rattle.std.specs.Prelude.{ℕ, ◌==◌, ◌+◌, ◌-◌, ◌*◌, ◌&&◌, ◌||◌, Bool, false, true, not, List, [], ◌∷◌, take, length, map, if◌then◌else◌, Option, Some, None, nat_lt, option_map, slice_get}
 use Rattle.subst_yaml_reader.specs.Bytes.{begins, is_blank, is_line_end, line_feed, carriage_return, single_quote, hyphen, backslash, underscore}
 use Rattle.subst_yaml_reader.specs.Runs.{closes, digits_after, escape_after, hex_value}
@@ -72,7 +72,8 @@ double held (b ∷ rest) =
     ]
 
 -- The lines of a block scalar, each without its indentation of `indent` bytes. Each line end becomes a line
--- feed. If `in_text`, the text of the first line has begun; otherwise `column` of its bytes were skipped.
+-- feed. If `in_text`, the text of the first line has begun; otherwise `column` bytes of that line were
+-- skipped.
 unfoldable pub lines_of : (indent : ℕ) → (in_text : Bool) → (column : ℕ) → List ℕ → List ℕ
 lines_of indent in_text column [] = []
 lines_of indent in_text column (b ∷ rest) =
@@ -120,8 +121,8 @@ abbrev pub is_plain_style : Style → Bool
 is_plain_style style.Plain = true
 is_plain_style _ = false
 
--- The value of a token of the style s, or `None` if it is an alias or not of this style. `indent` is the
--- number of spaces before each line of a block scalar.
+-- The value of a token of the style s, or `None` for an alias. If the token isn't of this style, the result
+-- may be `None`. `indent` is the number of spaces before each line of a block scalar.
 unfoldable pub value_of : Style → (indent : ℕ) → (token : List ℕ) → Option (List ℕ)
 value_of s indent [] = None
 value_of s indent (b ∷ rest) =

@@ -40,8 +40,9 @@ is_done _ = false
 abbrev pub is_key_due : State → Bool
 is_key_due s = is_member s.next && is_in Mapping s
 
--- A node in brackets may be a key. From its anchor or tag at `text` to `rest`, it has at most 1,024 bytes and
--- no line feed. No anchor or tag is pending, and an alias has none.
+-- A node in brackets may be a key, under three conditions. From `text` to `rest`, the node with its anchor
+-- and tag has at most 1,024 bytes and no line feed. No anchor or tag is pending. If the node is an alias, it
+-- has no anchor or tag.
 abbrev pub is_flow_key : Properties → Style → State → (text rest : List ℕ) → Bool
 is_flow_key properties style s text rest =
     fits_key text rest && not (has_any s.pending) && not (is_alias style && has_any properties)
@@ -85,8 +86,8 @@ flow_content properties s text (b ∷ rest) =
     then (if is_key_due s then None else open_bracket properties b s rest)
     else scalar_in_flow properties s text (b ∷ rest)
 
--- no node follows an anchor or a tag in brackets: the text is on another line (`fresh`), or begins with `,`,
--- `]` or `}`
+-- in brackets, no node follows an anchor or a tag on its line. This is so if the text after it is on another
+-- line (`fresh`), or begins with `,`, `]` or `}`
 abbrev pub is_node_over : (fresh : Bool) → List ℕ → Bool
 is_node_over fresh text = fresh || begins comma text || begins closing_square text || begins closing_curly text
 

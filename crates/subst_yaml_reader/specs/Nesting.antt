@@ -35,8 +35,8 @@ abbrev pub goes_on : Kind → (depth : ℕ) → List Kind → Bool
 goes_on kind depth blocks = not (nat_lt (length blocks) depth) && is_kind kind (innermost (take depth blocks))
 
 -- The open collections after an entry outside brackets, or `None` if the entry can't come next. The entry
--- continues the open collection of this kind at `depth`, or begins a new one. A new collection has to be due
--- as a value, and one deeper than all open collections.
+-- continues the open collection of this kind at `depth`, or begins a new one. It begins a new one only if a
+-- value is due, and if `depth` is the number of open collections plus 1.
 abbrev pub entered : Kind → (depth : ℕ) → Nest → Option Nest
 entered kind depth n =
     if not (has_none n.brackets) then None

@@ -1,4 +1,5 @@
--- Reading of a text of YAML: to a list of events, or `None` if the text is refused. A turn reads one token.
+-- Reading of a text of YAML. The result is a list of events, or `None` if the text is refused. A turn reads
+-- one token.
 use Rattle.std.specs.Prelude.{ℕ, zero, suc, ◌==◌, ◌+◌, ◌-◌, ◌&&◌, ◌||◌, Bool, false, true, List, [], ◌∷◌, ◌++◌, codes, drop, length, if◌then◌else◌, Option, Some, None, option_map}
 use Rattle.std.specs.List.{starts_with}
 use Rattle.subst_yaml_reader.specs.Block.{Turn, block_turn}
@@ -33,18 +34,20 @@ after_version text =
     if starts_with (λ b c. b == c) text (codes "%YAML 1.1") || starts_with (λ b c. b == c) text (codes "%YAML 1.2")
     then Some (drop 9 text) else None
 
--- the text from its first line end on, or `None` if the first line isn't `%YAML 1.1` or `%YAML 1.2`,
--- optionally with a comment
+-- the text from its first line end on, or `None` if its first line isn't a directive. A directive is `%YAML
+-- 1.1` or `%YAML 1.2`, optionally followed by blanks and a comment
 abbrev pub directive_end : List ℕ → Option (List ℕ)
 directive_end text = do
   rest ← after_version text
   line_end_of rest
 
--- the text is at the start of its line; `line` is the length of the text from that start on
+-- the text begins at the start of its line; `line` is the number of bytes from the start of that line to the
+-- end of the source
 abbrev pub is_at_line : ℕ × List ℕ → Bool
 is_at_line (line, text) = line - length text == 0
 
--- `next`, the token after a directive, if it is `---`, and otherwise the directive
+-- `next`, the token after `directive`, if it is `---` and both begin at the start of a line; otherwise
+-- `directive`
 abbrev pub begun : (directive next : ℕ × List ℕ) → ℕ × List ℕ
 begun directive next =
     if is_at_line directive && is_at_line next && is_mark_of_three hyphen next.1 then next else directive

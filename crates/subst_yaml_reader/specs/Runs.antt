@@ -36,8 +36,8 @@ after_name in_tag [] = []
 after_name in_tag (b ∷ rest) =
     elim (is_name_byte in_tag b) [ true ↦ after_name in_tag rest | false ↦ b ∷ rest ]
 
--- the role of a byte before the next token: it ends a line, is skipped, begins a comment, or belongs to the
--- token
+-- the role of a byte in the search for the next token: it ends a line, is skipped, begins a comment, or
+-- begins the token
 pub data LinePart : Type 0 where
   Ends : LinePart
   Passes : LinePart
@@ -51,10 +51,10 @@ line_part comments in_comment b =
     else if comments && b == hash then Opens
     else Stops
 
--- The next token of a text that begins in the indentation of a line. The result is the length of the text
--- from the start of the token's line on, and the text from the token on. Empty lines are skipped, and so are
--- comments if `comments`. `line` is the length of the text from the start of its first line on, and
--- `in_comment` is whether the text begins in a comment.
+-- The next token of a text that begins in the indentation of a line. The result is a pair: the length of the
+-- text from the start of the token's line on, and the text from the token on. Empty lines are skipped, and so
+-- are comments if `comments`. `line` is the number of bytes from the start of the line in which the text
+-- begins to the end of the source. `in_comment` is whether the text begins in a comment.
 unfoldable pub after_lines : (comments in_comment : Bool) → (line : ℕ) → List ℕ → ℕ × List ℕ
 after_lines comments in_comment line [] = (line, [])
 after_lines comments in_comment line (b ∷ rest) =
@@ -89,9 +89,9 @@ after_plain in_flow end (b ∷ rest) =
 abbrev pub breaks : ℕ → (rest : List ℕ) → Bool
 breaks b rest = b == line_feed && is_document_mark rest
 
--- The text after the closing single quote of a text that begins between the quotes, or `None` if they aren't
--- closed. `quoted` is whether the byte before the text is a quote, which closes them unless another quote
--- follows.
+-- The text after the closing single quote of a text that begins between the quotes, or `None` if the quotes
+-- aren't closed. `quoted` is whether the byte before the text is a quote that closes them unless another
+-- quote follows.
 unfoldable pub after_single : (quoted : Bool) → List ℕ → Option (List ℕ)
 after_single quoted [] = if quoted then Some [] else None
 after_single quoted (b ∷ rest) =
@@ -133,7 +133,7 @@ with_digit left value digit =
     else Some Nothing
 
 -- the state of an escape after the byte b in double quotes, or `None` if b is wrong in this state or before
--- `rest`; b doesn't close the quotes
+-- `rest`. The definition is for bytes that don't close the quotes
 abbrev pub escape_after : Escape → ℕ → (rest : List ℕ) → Option Escape
 escape_after Nothing b rest = if breaks b rest then None else Some (if b == backslash then Escaped else Nothing)
 escape_after Escaped b rest =
@@ -168,8 +168,9 @@ goes_on outer column [] = false
 goes_on outer column (b ∷ rest) = is_past outer column && not (column == 0 && is_document_mark (b ∷ rest))
     && not (b == hash) && not (is_blank b) && not (ends_plain false b rest)
 
--- the text from the first token of a line on, or `None` if it doesn't continue unquoted text in a collection
--- at the column `outer`; `line` is the length of the text from the start of that line on
+-- the text from a line's first token on, or `None` if the line doesn't continue unquoted text. The unquoted
+-- text is in a collection at the column `outer`. `line` is the number of bytes from the start of the line to
+-- the end of the source
 abbrev pub line_of : (outer : Option ℕ) → ℕ × List ℕ → Option (List ℕ)
 line_of outer (line, text) = if goes_on outer (line - length text) text then Some text else None
 
@@ -185,9 +186,9 @@ after_plain_lines (suc n) outer text =
     [ None ↦ text | Some line ↦ after_plain_lines n outer (after_plain false line line) ]
 
 -- The text after the lines of a block scalar, each indented by `indent` spaces. If `in_text`, the text of the
--- current line has begun; otherwise `column` of its spaces were skipped. `end` is the text after the last
--- line so far that has text. If `keep`, empty lines at the end belong to the scalar, and `end` is the text
--- after the last line so far.
+-- current line has begun; otherwise `column` spaces of that line were skipped. `end` is the text after the
+-- last line so far that has text. If `keep`, empty lines at the end belong to the scalar, and `end` is the
+-- text after the last line so far.
 unfoldable pub after_block : (indent : ℕ) → (keep in_text : Bool) → (column : ℕ) → (end : List ℕ) → List ℕ → List ℕ
 after_block indent keep in_text column end [] = if in_text || keep then [] else end
 after_block indent keep in_text column end (b ∷ rest) =

@@ -26,8 +26,9 @@ after_byte b (first ∷ rest) = if first == b then rest else first ∷ rest
 abbrev pub first_of : ℕ × List ℕ → Spot
 first_of (line, text) = (true, line, text)
 
--- The position of the next token, after blanks, comments and line ends. On the first line, a comment has to
--- follow a blank. `line` is the length of the text from the start of the first line on.
+-- The position of the next token, after blanks, comments and line ends. On the line in which the text begins,
+-- a comment needs a blank before it. `line` is the number of bytes from the start of that line to the end of
+-- the source.
 unfoldable pub after_gap : (line : ℕ) → List ℕ → Spot
 after_gap line text =
     if is_line_over (after_blanks text) || (begins hash (after_blanks text) && not (begins hash text))
@@ -70,21 +71,23 @@ abbrev pub joined : Properties → Properties → Option Properties
 joined p q = if (p.anchor && q.anchor) || (p.tag && q.tag) then None
     else Some (record { anchor = p.anchor || q.anchor; tag = p.tag || q.tag })
 
--- the anchor or the tag at the start of the text, and the position of the next token; `line` is the length of
--- the text from the start of its line on
+-- the anchor or the tag at the start of the text, and the position of the next token. `line` is the number of
+-- bytes from the start of the line in which the text begins to the end of the source
 unfoldable pub one_property : (in_flow : Bool) → (line : ℕ) → List ℕ → Option (Properties × Spot)
 one_property in_flow line text = do
   rest ← property in_flow text
   Some (property_of text, after_gap line rest)
 
--- the union of `first` and the anchor or the tag at the start of the text, and the position of the next token
+-- a pair: the union of `first` with the anchor or the tag at the start of the text, and the position of the
+-- next token
 unfoldable pub second_property : (in_flow : Bool) → (line : ℕ) → Properties → List ℕ → Option (Properties × Spot)
 second_property in_flow line first text = do
   second ← one_property in_flow line text
   both ← joined first second.0
   Some (both, second.1)
 
--- the anchor, the tag, both or none at the start of the text, and the position of the next token
+-- the anchor and the tag at the start of the text, each of which may be missing, and the position of the next
+-- token
 unfoldable pub node_properties : (in_flow : Bool) → (line : ℕ) → List ℕ → Option (Properties × Spot)
 node_properties in_flow line text = if not (is_property text) then Some (no_properties, (false, line, text)) else do
   first ← one_property in_flow line text
@@ -113,8 +116,9 @@ abbrev pub is_plain : Style → Bool
 is_plain style.Plain = true
 is_plain _ = false
 
--- The text begins with the colon after a key of the style s. White space or the end follows it, but in
--- brackets (`in_flow`) anything may follow after a key in quotes or an alias.
+-- The text begins with the colon after a key of the style s. White space or the end follows the colon, with
+-- one exception. In brackets (`in_flow`), anything may follow the colon if the key is in quotes or is an
+-- alias.
 abbrev pub colon_follows : (in_flow : Bool) → Style → List ℕ → Bool
 colon_follows in_flow s [] = false
 colon_follows in_flow s (b ∷ rest) = b == colon && ((in_flow && not (is_plain s)) || is_apart rest)
@@ -153,7 +157,8 @@ abbrev pub signed_header : ℕ → Bool × List ℕ → Option (ℕ × Bool × L
 signed_header digit (keep, text) =
     if digit == 0 then header_of (digit_at text).0 keep (digit_at text).1 else header_of digit keep text
 
--- The header of a block scalar, which `|` or `>` precedes: its digit or 0, whether its sign is `+`, and the
--- text from the end of the line on. The digit and the sign are in any order, and each may be missing.
+-- The header of a block scalar, from the text after its `|` or `>`. It is the digit or 0, whether the sign is
+-- `+`, and the text from the end of the line on. The digit and the sign are in any order, and each may be
+-- missing.
 unfoldable pub header : List ℕ → Option (ℕ × Bool × List ℕ)
 header text = signed_header (digit_at text).0 (sign_at (digit_at text).1)

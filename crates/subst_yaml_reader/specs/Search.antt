@@ -1,11 +1,12 @@
--- Searches: the bytes at which they stop, and the bytes that they skip, whatever follows.
+-- Searches: the bytes at which they stop, and the bytes that they skip. Whether a search stops at a byte
+-- depends only on that byte.
 use Rattle.std.specs.Prelude.{ℕ, ◌==◌, ◌&&◌, ◌||◌, Bool, true, false, not, List, [], ◌∷◌, if◌then◌else◌, nat_lt}
 use Rattle.std.specs.Int.{w64, trailing_zeros}
 use Rattle.std.specs.List.{prefix_len}
 use Rattle.subst_yaml_reader.specs.Bytes.{backslash, carriage_return, colon, double_quote, is_blank, is_bracket, is_line_end, line_feed, single_quote, space}
 
--- The byte may begin a character that not every reader accepts. It is a control character, or the first byte
--- of U+0080 to U+00BF, U+2000 to U+2FFF, or U+F000 to U+FFFF.
+-- The byte may begin a character that not every reader accepts. It is a control character other than a line
+-- feed, or the first byte of U+0080 to U+00BF, U+2000 to U+2FFF, or U+F000 to U+FFFF.
 abbrev pub may_be_foreign : ℕ → Bool
 may_be_foreign b = (nat_lt b 32 && not (b == line_feed)) || b == 127 || b == 194 || b == 226 || b == 239
 

@@ -1,4 +1,4 @@
--- The state of reading between tokens.
+-- The state of the reader between two tokens.
 use Rattle.std.specs.Prelude.{ℕ, ◌-◌, Bool, true, List, [], ◌∷◌, ◌++◌, take, length, Option, option_map, slice_get}
 use Rattle.subst_yaml_reader.specs.Scalar.{no_properties}
 use Rattle.subst_yaml_reader.specs.declared.event.Bracket.{Bracket}

@@ -82,8 +82,9 @@ fn after_mark(text: &[u8]) -> &[u8]
     }
 }
 
-/// Returns the column of a block scalar's lines: that of its collection, `column`, plus the header's `digit`.
-/// If `digit` is 0, returns `spaces`, the spaces before the first line, but at least `column` + 1.
+/// Returns the column of a block scalar's lines: `column`, where its collection is, plus the header's
+/// `digit`. If `digit` is 0, returns `spaces`, the number of spaces at the start of the first line, but at
+/// least `column` + 1.
 fn block_indent(column: usize, digit: usize, spaces: usize) -> usize
     ensures { result ≡ block_indent column digit spaces }
 {

@@ -45,7 +45,7 @@ pub(crate) fn is_inner(byte: u8) -> bool
     OUTER_BYTES[byte as usize] == b'.'
 }
 
-/// Returns whether a byte can't begin unquoted text.
+/// Returns whether a byte is one of `,[]{}#&*!|>'"%@` or the grave accent, which can't begin unquoted text.
 pub(crate) fn is_indicator(byte: u8) -> bool
     ensures { result ≡ is_indicator byte }
 {
@@ -154,7 +154,8 @@ fn is_odd(byte: u8, next: u8, third: u8) -> bool
         || byte == 239 && next == 191 && (third == 190 || third == 191)
 }
 
-/// Returns whether a byte, before `rest`, begins a character that not every reader accepts.
+/// Returns whether a byte begins a character that not every reader accepts. `rest` is the text after the
+/// byte.
 pub(crate) fn is_foreign(byte: u8, rest: &[u8]) -> bool
     ensures { result ≡ is_foreign byte rest.now }
 {

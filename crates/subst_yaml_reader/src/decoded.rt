@@ -137,7 +137,8 @@ fn value_after(
 }
 
 /// Returns the piece that a byte in single quotes decodes to, or `None` if the quotes are closed before the
-/// byte. `is_quoted` is whether the byte before it is a quote that closes them unless another quote follows.
+/// byte. If `is_quoted`, the byte before is a quote. That quote closes the single quotes unless `byte` is a
+/// quote too.
 fn single_step(is_quoted: bool, byte: u8) -> Option<Piece>
     ensures { result ≡ single_step is_quoted byte }
 {
@@ -228,7 +229,8 @@ fn double_step(held: Escape, byte: u8) -> Option<Escape>
     escape_after(held, byte, b"")
 }
 
-/// Decodes text after an opening double quote, or returns `None` if an escape is wrong or no quote closes it.
+/// Decodes text after an opening double quote. Returns `None` if an escape is wrong or the closing quote is
+/// missing.
 #[tactic(auto, unfolding(crate::specs::Decoded::double, crate::specs::Values::folded), using(crate::proofs::DecodedLemmas::prefixed_twice, crate::proofs::DecodedLemmas::folded_more))]
 fn double_value(alloc: Global, text: &[u8]) -> Result<Option<Vec<u8>>, AllocError>
     ensures { IfOk result (λ value. option_map (λ bytes. bytes.items) value

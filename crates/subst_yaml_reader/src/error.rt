@@ -44,11 +44,11 @@ pub enum Reason {
     Quote,
     /// An escape between double quotes isn't known.
     Escape,
-    /// A bracket isn't closed or closes none, or a comma is where none can be.
+    /// An opening bracket isn't closed, or a closing bracket or a comma is where none can be.
     Bracket,
     /// Unquoted text in brackets is continued on another line.
     FlowLines,
-    /// Text follows `|` or `>` on its line, or a whole document is in such a style.
+    /// Text follows `|` or `>` on the same line, or a whole document is a value after `|` or `>`.
     BlockHeader,
     /// A line of only spaces comes before the first line of text after `|` or `>`.
     BlockSpaces,
@@ -154,7 +154,8 @@ impl ErrorTrait for Error {}
 /// The reason why reading stops before the end of a text.
 #[derive(Clone, Copy, Drop)]
 pub(crate) enum Halt {
-    /// The text is refused: why, and the number of bytes from the refused character to the end of the text.
+    /// The text is refused. The fields are the reason, and the number of bytes from the refused character to
+    /// the end of the text.
     Refused(Reason, usize),
     /// An allocation failed.
     OutOfMemory,

@@ -26,7 +26,8 @@ fn is_same(one: Bracket, other: Bracket) -> bool
     }
 }
 
-/// Returns whether no node follows an anchor or a tag: the text is on another line, or at `,`, `]` or `}`.
+/// Returns whether no node follows an anchor or a tag: the text after it is on another line, or begins with
+/// `,`, `]` or `}`.
 fn is_node_over(is_fresh: bool, text: &[u8]) -> bool
     ensures { result ≡ is_node_over is_fresh text.now }
 {
@@ -88,7 +89,8 @@ impl Reader {
         }
     }
 
-    /// Ends an entry at the byte before `rest`, and also its pair if the entry is `key: value` in a sequence.
+    /// Ends an entry at the byte before `rest`. If the entry is a pair `key: value` in a sequence, the pair
+    /// is closed too.
     #[tactic(auto, unfolding(crate::specs::Flow::ended))]
     fn end_entry(&mut self, rest: &[u8]) -> Result<(), Halt>
         ensures ok { IfOk result (λ _. ended (state_of self.old) ≡ Some (state_of self.new)) }
@@ -237,7 +239,8 @@ impl Reader {
         Ok(self.go_on(rest))
     }
 
-    /// Returns whether a node in brackets, from its anchor or tag at `text` to `colon`, may be a key.
+    /// Returns whether a node in brackets may be a key. The node, its anchor and tag included, is from `text`
+    /// to `colon`.
     fn is_flow_key(&self, properties: Properties, style: Style, text: &[u8], colon: &[u8]) -> bool
         ensures { result ≡ is_flow_key properties style (state_of self.now) text.now colon.now }
     {

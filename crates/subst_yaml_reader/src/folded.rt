@@ -78,7 +78,7 @@ pub(crate) fn append_gap(alloc: Global, value: &mut Vec<u8>, white: &[u8]) -> Re
     }
 }
 
-/// Folds the white space after a value, and appends it to the value, since more of the value follows.
+/// Folds the white space after the value so far, and appends it, since more of the value follows.
 fn end_gap(alloc: Global, folded: &mut Folded) -> Result<(), AllocError>
     ensures value { IfOk result (λ _. folded.new.value.items
         ≡ folded.old.value.items ++ gap folded.old.white.items) }

@@ -44,7 +44,7 @@ pub(crate) enum Next {
     Member,
 }
 
-/// The kind of an event, as far as it decides the reason for refusing text after the event.
+/// The kind of an event. The reason for refusing text after the event depends on its kind.
 #[derive(Clone, Copy)]
 pub(crate) enum EventKind {
     /// The end of a collection in brackets.

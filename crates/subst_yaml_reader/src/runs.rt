@@ -85,7 +85,7 @@ pub(crate) fn after_line_ends(text: &[u8]) -> &[u8]
     rest
 }
 
-/// Returns the text from the end of its line on.
+/// Returns the text from the end of its first line on.
 #[tactic(auto, unfolding(crate::specs::Runs::to_line_end))]
 pub(crate) fn to_line_end(text: &[u8]) -> &[u8]
     ensures { result.now ≡ to_line_end text.now }
@@ -116,7 +116,7 @@ pub(crate) fn after_name(text: &[u8], in_tag: bool) -> &[u8]
     rest
 }
 
-/// Returns whether a byte belongs to the indentation of a line, or to an empty line.
+/// Returns whether a byte is a space, as in indentation, or a carriage return, as in an empty line.
 fn is_indentation(byte: u8) -> bool
     ensures { result ≡ is_indentation byte }
 {
@@ -124,8 +124,8 @@ fn is_indentation(byte: u8) -> bool
 }
 
 /// Skips indentation and empty lines before the next token, and also comments if `comments`. Returns the
-/// length of the text from the start of the token's line on, and the text from the token on. `line` is that
-/// length for the first line.
+/// number of bytes from the start of the token's line to the end of the source, and the text from the token
+/// on. `line` is that number for the line in which `text` begins.
 #[tactic(auto, unfolding(crate::specs::Runs::after_lines))]
 #[inline(always)]
 pub(crate) fn after_lines(text: &[u8], line: usize, comments: bool) -> (usize, &[u8])
@@ -373,7 +373,7 @@ pub(crate) fn after_double(text: &[u8]) -> Result<&[u8], Halt>
     Err(Halt::before(Reason::Quote, text))
 }
 
-/// Returns whether `column` is past `outer`, the column of a collection, or `outer` is `None`.
+/// Returns whether `column` is past `outer`, the column of a collection. Returns `true` if `outer` is `None`.
 pub(crate) fn is_past(outer: Option<usize>, column: usize) -> bool
     ensures { result ≡ is_past outer column }
 {

@@ -22,8 +22,11 @@ pub(crate) struct Properties {
     pub(crate) tag: bool,
 }
 
-/// The position of a token: whether it is the first on its line, the length of the text from the line's start
-/// on, and the text from the token on.
+/// The position of a token, as three values:
+///
+/// - whether the token is the first on its line;
+/// - the number of bytes from the start of that line to the end of the source;
+/// - the text from the token on.
 pub(crate) type Spot<'t> = (bool, usize, &'t [u8]);
 
 /// The header of a block scalar: its digit (0 if it has none), whether it has a `+`, and the text from the
@@ -245,7 +248,8 @@ pub(crate) fn digit_at(text: &[u8]) -> (usize, &[u8])
     }
 }
 
-/// Returns whether the text begins with `+`, and the text after a `+` or `-` at its start.
+/// Reads a `+` or `-` at the start of the text, if there is one. Returns whether a `+` was read, and the rest
+/// of the text.
 fn sign_at(text: &[u8]) -> (bool, &[u8])
     ensures { sign_at text.now ≡ (result.0, result.1.now) }
 {
@@ -256,7 +260,8 @@ fn sign_at(text: &[u8]) -> (bool, &[u8])
     }
 }
 
-/// Returns the text from the end of its line on, or `None` if the line has more than blanks and a comment.
+/// Returns the text from the end of its first line on, or `None` if that line has more than blanks and a
+/// comment.
 #[tactic(auto, unfolding(crate::specs::Scalar::line_end_of))]
 pub(crate) fn line_end_of(text: &[u8]) -> Option<&[u8]>
     ensures { option_map (λ rest. rest.now) result ≡ line_end_of text.now }

@@ -26,7 +26,8 @@ pub(crate) fn after_clear(text: &[u8]) -> &[u8]
     after_clear_bytewise(rest)
 }
 
-/// Searches a byte at a time for one that may begin a refused character, and returns the text from it on.
+/// Searches, one byte at a time, for a byte that may begin a refused character. Returns the text from that
+/// byte on.
 #[tactic(auto, unfolding(crate::specs::Runs::is_text))]
 fn after_clear_bytewise(text: &[u8]) -> &[u8]
     ensures same { is_text text.now ≡ is_text result.now }
@@ -99,7 +100,8 @@ pub(crate) fn after_quoted(text: &[u8]) -> &[u8]
     after_quoted_bytewise(rest)
 }
 
-/// Searches a byte at a time for one that may end quotes or begin an escape. Returns the text from it on.
+/// Searches, one byte at a time, for a byte that may end text in quotes or begin an escape. Returns the text
+/// from that byte on.
 #[tactic(auto, unfolding(crate::specs::Runs::after_double, crate::specs::Runs::after_single))]
 fn after_quoted_bytewise(text: &[u8]) -> &[u8]
     ensures double { after_double Nothing text.now ≡ after_double Nothing result.now }

@@ -50,16 +50,17 @@ fn directive_end(text: &[u8]) -> Option<&[u8]>
     line_end_of(after_version(text)?)
 }
 
-/// Returns whether the text is at the start of its line. `line` is the length of the text from that start on.
+/// Returns whether `text` begins at the start of a line. `line` is the number of bytes from the start of the
+/// line in which `text` begins to the end of the source.
 fn is_at_line(line: usize, text: &[u8]) -> bool
     ensures { result ≡ is_at_line (line, text.now) }
 {
     line.saturating_sub(text.len()) == 0
 }
 
-/// Skips the directive `%YAML 1.1` or `%YAML 1.2` if `---` follows it. Returns the length of the text from
-/// the start of the next token's line on, and the text from that token on. If nothing is skipped, returns the
-/// arguments.
+/// Skips the directive `%YAML 1.1` or `%YAML 1.2` if `---` follows it. Returns the number of bytes from the
+/// start of the next token's line to the source's end, and the text from that token on. If nothing is
+/// skipped, returns the arguments.
 #[tactic(auto, unfolding(crate::specs::Reading::after_directive))]
 pub(crate) fn after_directive(line: usize, text: &[u8]) -> (usize, &[u8])
     ensures { after_directive (line, text.now) ≡ (result.0, result.1.now) }

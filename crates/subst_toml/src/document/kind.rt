@@ -11,8 +11,9 @@ use subst_document::Part;
 use toml_parser::bytes::is_non_eol;
 use toml_parser::text::{first, starts_newline};
 
-/// Returns whether a value can be spelled in a token's kind of string. An empty value can't. In single
-/// quotes, a value with a single quote or a control character other than a tab can't either.
+/// Returns whether a value fits into a token's kind of string. An empty value doesn't fit, since a line
+/// continuation before the value would extend past it. In single quotes, a value with a single quote or a
+/// control character other than a tab doesn't fit either.
 pub(super) fn fits(token: &str, value: &str) -> bool
     ensures { result ≡ kinds.fits token.now value.now }
 {
@@ -34,8 +35,8 @@ fn is_literal(byte: u8) -> bool
 }
 
 /// Appends `value`, spelled in the token's kind of string. Returns `false` if that kind can't spell it. If
-/// the document's lines end in `\r\n`, a line feed in `value` is escaped; in single quotes it can't be
-/// spelled.
+/// the document's lines end in `\r\n`, a line feed in `value` is escaped in double quotes, and can't be
+/// spelled in single quotes.
 pub(super) fn write_value(
     token: &str,
     value: &str,
@@ -173,8 +174,8 @@ pub(super) fn write_line_end(has_crlf: bool, output: &mut String) -> Result<bool
     Ok(true)
 }
 
-/// Returns a token in double quotes for the string that `parts` make. The new token has as many quotes as
-/// `token`, the old one, and keeps the line ends of the string's own text.
+/// Returns a token in double quotes for the string that `parts` make. It has as many quotes as the old token
+/// `token`, and keeps the line ends of the string's own text.
 pub(super) fn double_quoted(
     alloc: Global,
     token: &str,
@@ -201,7 +202,8 @@ pub(super) fn double_quoted(
     Ok(output)
 }
 
-/// Returns the line end after three opening quotes, which isn't part of the string, or an empty text.
+/// Returns the line end after three opening quotes, or an empty text if there is none. This line end isn't
+/// part of the string.
 fn opening_newline(token: &str) -> &str {
     let Some(quotes) = quotes(token) else {
         return "";

@@ -68,7 +68,7 @@ where
     refusals_by(alloc, source, &Filler { variables })
 }
 
-/// Lists the strings of a TOML document that `filler` refuses, as [`refusals_in`].
+/// Lists the strings that `filler` refuses in a TOML document, as [`refusals_in`].
 ///
 /// # Errors
 ///

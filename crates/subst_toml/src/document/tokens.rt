@@ -122,7 +122,8 @@ impl Scanner {
         skip(text, 1)
     }
 
-    /// Reads a key and its value, as [`Scanner::value`], and returns the text after both.
+    /// Reads a key and its value, and returns the text after both. The value is read as by
+    /// [`Scanner::value`].
     fn pair<'s>(&mut self, alloc: Global, text: &'s str) -> Result<&'s str, ParseError>
         ensures reads { IfOk result (λ rest. spec.pair (scanner_of self.old) text.now
             ≡ Some (scanner_of self.new, rest.now)) }

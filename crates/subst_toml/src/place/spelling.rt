@@ -1,4 +1,5 @@
-//! The spelling of a string in its token, in pieces. Each piece spells a character, or spells nothing.
+//! The spelling of a string in its token, in pieces. Each piece spells a character, a newline of two bytes,
+//! or nothing.
 
 ghost use Rattle.std.specs.Prelude.{◌<◌, ◌≤◌, IfSome, length};
 
@@ -127,7 +128,8 @@ fn escape(text: &str, is_multi_line: bool) -> Option<Piece<'_>>
     }
 }
 
-/// Returns the piece of a hex escape with `digits` digits at the start of `text`, or `None` if it is invalid.
+/// Returns the piece of a hex escape whose `digits` digits are at the start of `text`, or `None` if the
+/// escape is invalid.
 fn hex_escape(text: &str, digits: usize) -> Option<Piece<'_>>
     ensures within { IfSome result (λ piece. length piece.rest.now ≤ length text.now) }
 {

@@ -4,7 +4,8 @@
 use std::ops::Range;
 use subst_yaml_reader::Style;
 
-/// The style of a value, and the number of spaces before each of its lines after `|` or `>`.
+/// The style of a value. For a value after `|` or `>`, `indent` is the number of spaces before each of its
+/// lines.
 #[derive(Clone, Copy)]
 pub(crate) struct Scalar {
     pub(crate) style: Style,
@@ -93,7 +94,7 @@ impl<'t> Cursor<'t> {
         })
     }
 
-    /// Advances to the character at an offset of the string, after any bytes that spell nothing.
+    /// Advances to the character at an offset of the string, past any bytes before it that spell nothing.
     fn pass_to(&mut self, offset: usize) {
         for _ in 0..self.rest.len() {
             match self.piece {
@@ -158,7 +159,7 @@ impl<'t> Cursor<'t> {
         self.piece = first_piece(self.scalar, self.rest, self.is_indented);
     }
 
-    /// Advances by these numbers of bytes of the token and of the string.
+    /// Advances by `len` bytes of the token and `spelled` bytes of the string.
     fn advance(&mut self, len: usize, spelled: usize) {
         self.rest = self.rest.get(len..).unwrap_or(&[]);
         self.place = self.place.saturating_add(len);
@@ -166,8 +167,8 @@ impl<'t> Cursor<'t> {
     }
 }
 
-/// Returns the number of bytes before a token's content: of its quote, or of its header, which is the line of
-/// `|` or `>` without its line end.
+/// Returns the length of a token's opening quote or header, in bytes, or 0 if it has neither. The header is
+/// the line of `|` or `>`, without its line end.
 fn opening_len(style: Style, token: &[u8]) -> usize {
     match style {
         Style::Plain | Style::Alias => 0,
@@ -217,7 +218,7 @@ fn joined_len(line_feeds: usize) -> usize {
     }
 }
 
-/// Returns the piece of the white space at the start of a text.
+/// Returns one piece for the white space at the start of a text.
 fn white_space(text: &[u8]) -> Piece {
     let len = white_len(text);
     match line_feeds(text.get(..len).unwrap_or(&[])) {
