@@ -124,8 +124,8 @@ FilesLeave above before (s ∷ files) after = (middle : List Entry) × Leaves ab
 abbrev pub IsFaultOfFile : (above before : List Entry) → (s : List ℕ) → Fault → Type 0
 IsFaultOfFile above before s it = IsNoText s it ⊎ Stops above before (after_mark s) it.cause
 
--- `it` is the first refused file of `files`: the files `done` precede that file and leave the entries
--- `before`, and one of the faults in `it` is a fault of the file
+-- `it` reports the first refused file of `files`: `done` precede that file and leave the entries `before`,
+-- and at least one of the faults in `it` is a fault of that file
 pub record IsFirstRefused (above : List Entry) (files : List (List ℕ)) (it : Refused) : Type 0 where
   pub done : List (List ℕ)
   pub later : List (List ℕ)

@@ -26,8 +26,8 @@ pub record Refusal : Type 0 where
   pub text : List ℕ
   pub fault : Option Fault
 
--- The refusals of these strings, in order. Each other string has an output. `ask` is the relation of a string
--- and its answers.
+-- The refusals of those strings that are refused, in order. The others have outputs. `ask` is the relation of
+-- a string and its answers.
 abbrev pub AreRefusals : (List ℕ → Answer → Type 0) → List Located → List Refusal → Type 0
 AreRefusals ask [] refusals = refusals ≡ []
 AreRefusals ask (it ∷ rest) refusals =

@@ -34,8 +34,8 @@ pub record IsRefusalOf {P : Type 0} (ask : List ℕ → Answer → Type 0) (Lead
   pub refused : ask (text_at it) (Refuses fault)
   pub range : IsRangeIn (text_at it) (range_of (error_fault refusal.error))
 
--- The refusals of these strings, in order. Each other string has an output. `index` is the index of the first
--- string, and `LeadsTo` holds of the index of a string and a path to it.
+-- The refusals of those strings that are refused, in order. The others have outputs. `index` is the index of
+-- the first string, and `LeadsTo` holds of the index of a string and a path to it.
 abbrev pub AreRefusedOf : {P : Type 0} → (List ℕ → Answer → Type 0) → (ℕ → P → Type 0) → ℕ → List StringAt
     → List (RefusalAt P) → Type 0
 AreRefusedOf ask LeadsTo index [] refusals = refusals ≡ []

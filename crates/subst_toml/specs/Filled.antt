@@ -160,7 +160,7 @@ refusal_in it = record { text = string_bytes it.text; span = it.span; fault = er
 abbrev pub HasFaultInText : RefusalIn → Type 0
 HasFaultInText it = IsRangeIn it.text (range_of it.fault)
 
--- The refusals of these strings, in order. Each other string has an output.
+-- The refusals of those strings that are refused, in order. The others have outputs.
 abbrev pub AreRefusalsIn : (List ℕ → Answer → Type 0) → List Spelled → List RefusalIn → Type 0
 AreRefusalsIn ask [] refusals = refusals ≡ []
 AreRefusalsIn ask (it ∷ found) refusals =

@@ -1,6 +1,9 @@
--- Written trees, and the text of each. In EBNF, where the braces in a `default` match: template = { item } ;
--- item     = plain | "\" special | "$" name | "${" name "}" | "${" name "?}" | "${" name ":" default "}" ;
--- default  = template ; name     = name byte, { name byte } ;
+-- Written trees, and the text of each. In EBNF, where the braces in a `default` match:
+--   template = { item } ;
+--   item     = plain | "\" special | "$" name | "${" name "}" | "${" name "?}"
+--            | "${" name ":" default "}" ;
+--   default  = template ;
+--   name     = name byte, { name byte } ;
 use Rattle.std.specs.Prelude.{ℕ, List, [], ◌∷◌, ◌++◌}
 use Rattle.subst_language.specs.Language.Bytes.{dollar, colon, question_mark, backslash, opening_brace, closing_brace}
 
