@@ -70,7 +70,8 @@ impl Reason {
         match self {
             Reason::Tab => "a tab in the indentation",
             Reason::Indentation => "an indentation that no line before has",
-            Reason::NotAValue => "a key or an item in place of a value; quote values that contain ': '",
+            Reason::NotAValue =>
+                "a key or an item in place of a value; quote values that contain ': '",
             Reason::NotAnEntry => "not a key or an item of the collection at this indentation",
             Reason::TextAfterValue => "text after a value",
             Reason::TextAfterEnd => "text after '...' without '---'",
