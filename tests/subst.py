@@ -75,7 +75,7 @@ def failed_since(file, why):
 
 def not_replaced(file, number, new):
     """Returns the messages about a new file that can't be made, or can't replace a file."""
-    return failed(file, number) + failed_since(file, f"{new} can't replace it; use '> FILE' to write into it")
+    return failed(file, number) + failed_since(file, f"{new} can't replace this file; use '> FILE' to write into it")
 
 
 # Sources and files

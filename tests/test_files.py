@@ -294,7 +294,7 @@ class OutputFolder(Subst):
         self.assert_wrong(['-Oout'], '--output-folder needs a file')
         self.assert_wrong(['-Oout', '-'], "--output-folder can't be used with standard input")
         for words in (['--strip=.in'], ['--strip=', '-Oout', 'a'], ['--strip=', '--check']):
-            self.assert_wrong(words, '--strip needs a suffix and --output-folder, --in-place, --check or --names')
+            self.assert_wrong(words, '--strip needs a suffix, and one of --output-folder, --in-place, --check or --names')
 
 
 # Arguments, and sources that expand to themselves.

@@ -190,7 +190,7 @@ class InPlaceOfFolders(Subst):
         self.assert_files('c.in', 'd', folder='t/deep')
         self.assert_files('t', 'e')
         for words in (['-i', '--strip=', 't'], ['--strip=.in', 't'], ['--strip=.in', '--auto', 'e']):
-            self.assert_wrong(words, '--strip needs a suffix and --output-folder, --in-place, --check or --names')
+            self.assert_wrong(words, '--strip needs a suffix, and one of --output-folder, --in-place, --check or --names')
         self.assert_wrong(['-o', 'new', '--strip=.in'],
                           "the argument '--output <FILE>' cannot be used with '--strip <SUFFIX>'", usage='--output <FILE>')
         hint = b"subst: hint: no file name ends in '.tmpl' (--strip)\n"

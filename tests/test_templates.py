@@ -109,7 +109,7 @@ class Shell(Subst):
                 message = told(f'<stdin>:1:{column}', what, text, ' ' * (column - 1) + '^')
                 for words in ([], ['--bytes'], ['--names'], ['--strict']):
                     self.assert_refused(['--shell', '-sA=1', *words], text.encode(), message)
-        what = 'an opening brace in a default; use a chosen variable instead, as in `${NAME:$OTHER}`'
+        what = 'an opening brace in a default; write the variable without braces, as in `${NAME:$OTHER}`'
         self.assert_refused(['--only=B', '-sB=1'], b'$ ${B:{}}', told('<stdin>:1:7', what, '$ ${B:{}}', ' ' * 6 + '^'))
 
     def test_faults_of_a_shell(self):

@@ -37,7 +37,7 @@ LAXER = (
     "a value without a key isn't supported",
     "a collection as a key isn't supported; is this a Helm or Jinja template?",
     "a key over several lines or of more than 1,024 bytes isn't supported",
-    "a directive isn't supported, nor a value that begins with '%'",
+    "directives aren't supported, nor values that begin with '%'",
     "an unsupported name of an anchor, alias or tag",
     "text after '|' or '>', or a whole document in this style",
     "a line of spaces before the first line of text after '|' or '>'",
@@ -46,7 +46,7 @@ LAXER = (
     "a carriage return without a line feed",
     # A lone anchor as a key in brackets, and `|` at the column of its key.
     "a missing closing bracket, or a bracket or comma out of place",
-    'not a key or an item of the collection at this indentation',
+    'neither a key nor an item of the collection at this indentation',
 )
 
 # Trees: lists of `document`, `[`, `{`, `)` and scalars, so that both readers' are compared as lists.

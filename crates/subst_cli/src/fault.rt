@@ -141,10 +141,10 @@ fn instead_of(form: ShellForm) -> &'static str {
             "`:` takes a substring, which isn't supported; write `${NAME:-default}` for a default"
         }
         ShellForm::Brace =>
-            "an opening brace in a default; use a chosen variable instead, as in `${NAME:$OTHER}`",
+            "an opening brace in a default; write the variable without braces, as in `${NAME:$OTHER}`",
         ShellForm::Unclosed => "a variable without a closing brace; write `}` after it",
         ShellForm::Dollar => "a dollar that begins no variable; write `$$` for a dollar",
-        ShellForm::Message => "an opening brace in a message; remove it",
+        ShellForm::Message => "an opening brace in the message after `?`; remove it",
         ShellForm::Minus
         | ShellForm::Question
         | ShellForm::Plus

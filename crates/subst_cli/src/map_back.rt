@@ -22,7 +22,8 @@ use subst::{ByteTemplate, Error, Variable, VariableMap, substitute_bytes};
 /// The variables of a text, by the positions of the same variables in its template.
 pub(crate) type Counterparts<'t> = HashMap<usize, TextVariable<'t>>;
 
-/// Maps a template's faults back to the text that was converted into it, by the variables in `counterparts`.
+/// Maps a template's faults back to the text that was converted into the template. `counterparts` has the
+/// text's variable for each of the template's.
 ///
 /// # Errors
 ///

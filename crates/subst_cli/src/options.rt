@@ -418,7 +418,7 @@ fn suffix_of<'w>(
     if suffix.is_empty() || matches!(action, Action::Print | Action::WriteTo(_)) {
         return Err(wrong(
             alloc,
-            "--strip needs a suffix and --output-folder, --in-place, --check or --names",
+            "--strip needs a suffix, and one of --output-folder, --in-place, --check or --names",
         ));
     }
     Ok(suffix)

@@ -529,7 +529,9 @@ fn report_write(
         && let Ok(new) = output::path_of_new(rt, file)
     {
         let new = display_name(alloc, new.as_path().as_str())?;
-        let why = format!(in alloc; "{new} can't replace it; use '> FILE' to write into it")?;
+        let why = format!(in alloc;
+            "{new} can't replace this file; use '> FILE' to write into it"
+        )?;
         report.failed_since(&name, &why)?;
     }
     Ok(())

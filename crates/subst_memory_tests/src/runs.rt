@@ -231,9 +231,9 @@ pub fn calls(rt: &HostRuntime) -> Result<(), AllocError> {
     run_over_text(rt, "run_text of a missing variable", MISSING)?;
     run_over_text(rt, "run_text of Hi $!", b"Hi $!")?;
     run_over_text(rt, "run_text of bytes that aren't UTF-8", b"$name\xFF")?;
-    run_after(rt, "run_program of bytes name=world", "bytes name=world")?;
-    run_after(rt, "run_program of text name=world", "text name=world")?;
-    run_after(rt, "run_program of env", "env")?;
+    run_after(rt, "run_program bytes name=world", "bytes name=world")?;
+    run_after(rt, "run_program text name=world", "text name=world")?;
+    run_after(rt, "run_program env", "env")?;
     make_values_of_arguments(rt, &arguments_of(rt.alloc(), "name=world")?);
     make_values_of_pairs(rt, &owned_pairs(rt.alloc(), &[("name", "world")])?);
     Ok(())

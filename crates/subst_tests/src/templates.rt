@@ -18,7 +18,7 @@ fn text(bytes: &[u8]) -> &str {
 
 const LETTER: &str = "Welcome to our hair salon, $name!";
 
-/// Returns two texts, concatenated.
+/// Returns two texts, joined by `; `.
 fn two(alloc: Global, first: TextResult, second: TextResult) -> TextResult {
     let first = first?;
     let second = second?;

@@ -248,7 +248,7 @@ const REASONS: [(Reason, &str); 23] = [
     (Reason::Tab, "a tab in the indentation"),
     (
         Reason::Indentation,
-        "an indentation that no line before has",
+        "an indentation that no earlier line has",
     ),
     (
         Reason::NotAValue,
@@ -256,7 +256,7 @@ const REASONS: [(Reason, &str); 23] = [
     ),
     (
         Reason::NotAnEntry,
-        "not a key or an item of the collection at this indentation",
+        "neither a key nor an item of the collection at this indentation",
     ),
     (Reason::TextAfterValue, "text after a value"),
     (Reason::TextAfterEnd, "text after '...' without '---'"),
@@ -272,7 +272,7 @@ const REASONS: [(Reason, &str); 23] = [
     ),
     (
         Reason::Directive,
-        "a directive isn't supported, nor a value that begins with '%'",
+        "directives aren't supported, nor values that begin with '%'",
     ),
     (
         Reason::Name,
@@ -280,7 +280,7 @@ const REASONS: [(Reason, &str); 23] = [
     ),
     (
         Reason::Properties,
-        "a second anchor or tag, or one at an alias",
+        "a second anchor or tag, or an anchor or tag at an alias",
     ),
     (Reason::Quote, "a missing closing quote"),
     (Reason::Escape, "an unknown escape"),

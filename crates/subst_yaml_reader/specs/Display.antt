@@ -10,9 +10,9 @@ use Rattle.subst_yaml_reader.specs.declared.error.Reason.TheVariants as reason
 -- the text of a reason
 abbrev pub display_of_reason : Reason → List ℕ
 display_of_reason reason.Tab = codes "a tab in the indentation"
-display_of_reason reason.Indentation = codes "an indentation that no line before has"
+display_of_reason reason.Indentation = codes "an indentation that no earlier line has"
 display_of_reason reason.NotAValue = codes "a key or an item in place of a value; quote values that contain ': '"
-display_of_reason reason.NotAnEntry = codes "not a key or an item of the collection at this indentation"
+display_of_reason reason.NotAnEntry = codes "neither a key nor an item of the collection at this indentation"
 display_of_reason reason.TextAfterValue = codes "text after a value"
 display_of_reason reason.TextAfterEnd = codes "text after '...' without '---'"
 display_of_reason reason.ComplexKey = codes "a key after '?' isn't supported"
@@ -20,9 +20,9 @@ display_of_reason reason.NoKey = codes "a value without a key isn't supported"
 display_of_reason reason.CollectionKey =
     codes "a collection as a key isn't supported; is this a Helm or Jinja template?"
 display_of_reason reason.LongKey = codes "a key over several lines or of more than 1,024 bytes isn't supported"
-display_of_reason reason.Directive = codes "a directive isn't supported, nor a value that begins with '%'"
+display_of_reason reason.Directive = codes "directives aren't supported, nor values that begin with '%'"
 display_of_reason reason.Name = codes "an unsupported name of an anchor, alias or tag"
-display_of_reason reason.Properties = codes "a second anchor or tag, or one at an alias"
+display_of_reason reason.Properties = codes "a second anchor or tag, or an anchor or tag at an alias"
 display_of_reason reason.Quote = codes "a missing closing quote"
 display_of_reason reason.Escape = codes "an unknown escape"
 display_of_reason reason.Bracket =

@@ -69,10 +69,10 @@ impl Reason {
     {
         match self {
             Reason::Tab => "a tab in the indentation",
-            Reason::Indentation => "an indentation that no line before has",
+            Reason::Indentation => "an indentation that no earlier line has",
             Reason::NotAValue =>
                 "a key or an item in place of a value; quote values that contain ': '",
-            Reason::NotAnEntry => "not a key or an item of the collection at this indentation",
+            Reason::NotAnEntry => "neither a key nor an item of the collection at this indentation",
             Reason::TextAfterValue => "text after a value",
             Reason::TextAfterEnd => "text after '...' without '---'",
             Reason::ComplexKey => "a key after '?' isn't supported",
@@ -81,9 +81,9 @@ impl Reason {
                 "a collection as a key isn't supported; is this a Helm or Jinja template?",
             Reason::LongKey =>
                 "a key over several lines or of more than 1,024 bytes isn't supported",
-            Reason::Directive => "a directive isn't supported, nor a value that begins with '%'",
+            Reason::Directive => "directives aren't supported, nor values that begin with '%'",
             Reason::Name => "an unsupported name of an anchor, alias or tag",
-            Reason::Properties => "a second anchor or tag, or one at an alias",
+            Reason::Properties => "a second anchor or tag, or an anchor or tag at an alias",
             Reason::Quote => "a missing closing quote",
             Reason::Escape => "an unknown escape",
             Reason::Bracket => "a missing closing bracket, or a bracket or comma out of place",
