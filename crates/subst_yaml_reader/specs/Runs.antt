@@ -89,9 +89,9 @@ after_plain in_flow end (b ∷ rest) =
 abbrev pub breaks : ℕ → (rest : List ℕ) → Bool
 breaks b rest = b == line_feed && is_document_mark rest
 
--- What follows the closing quote in a text that begins inside single quotes. The result is `None` if the text
--- ends, or a document mark begins a line, before they are closed. `quoted` is whether the byte before the text
--- is a quote that closes them unless another quote follows.
+-- The bytes after the closing quote, in a text that begins inside single quotes. The result is `None` if the
+-- text ends, or a document mark begins a line, before they are closed. `quoted` is whether the byte before the
+-- text is a quote that closes them unless another quote follows.
 unfoldable pub after_single : (quoted : Bool) → List ℕ → Option (List ℕ)
 after_single quoted [] = if quoted then Some [] else None
 after_single quoted (b ∷ rest) =
