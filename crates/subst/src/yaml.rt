@@ -1,4 +1,4 @@
-//! YAML whose values are filled in in place.
+//! YAML whose values are filled in directly in the text.
 //!
 //! [`fill_in`] and [`fill_in_slice`] fill in the values of a text: those of mappings, sequences and
 //! documents. Keys, comments, tags and layout are kept, and no value can break out of its scalar.

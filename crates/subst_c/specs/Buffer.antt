@@ -19,9 +19,9 @@ pub record IsTooLong {A : Type 0} (IsWanted : List A → Type 0) (needed : ℕ) 
 -- the effect that a call with the result `result` has on the buffer, and on the count of needed items
 pub record FillsBuffer {A : Type 0} (IsWanted : List A → Type 0) (result needed_old needed : ℕ)
     (old new : List A) : Type 0 where
-  -- the buffer begins with the wanted items
+  -- if the result is `DONE`, the buffer begins with the wanted items
   pub done : result ≡ DONE → IsPut IsWanted needed old new
-  -- the wanted items are more than the buffer holds
+  -- if the result is `ROOM_TOO_SMALL`, the wanted items are more than the buffer holds
   pub too_small : result ≡ ROOM_TOO_SMALL → IsTooLong IsWanted needed old
   -- unless the call is done, the buffer is unchanged
   pub buffer_kept : result ≢ DONE → new ≡ old

@@ -107,17 +107,18 @@ IsReported format look s reported =
     (IsNoDocument format s × (reported.kind ≡ 6))
     ⊎ ((it : Refused format) × IsFirst format look s it × IsRecordIn format s it reported)
 
--- the text before a fault's text: the path and a colon, or nothing for a document that is a single string
+-- the text before a fault's text: the path, a colon and a space, or nothing if the path is empty
 abbrev pub before_fault : List ℕ → List ℕ
 before_fault [] = []
 before_fault (b ∷ path) = (b ∷ path) ++ codes ": "
 
--- `text` is the text of the fault f, after `path` and a colon unless `path` is empty
+-- `text` is `path`, a colon, a space and the text of the fault f, or only the text of f if `path` is empty
 abbrev pub IsTextAfterPath : (path text : List ℕ) → Fault → Type 0
 IsTextAfterPath path text f = (shown : List ℕ) × (text ≡ before_fault path ++ shown) × IsDisplayOfFault f shown
 
--- `text` is empty if the document s can be filled in, or else the text of the first refused string's fault,
--- after the string's path. If s is no document, `text` can be anything, since it is the reader's message.
+-- `text` is empty if the document s can be filled in. If a string is refused, `text` is the text of the first
+-- refused string's fault, after the string's path. If s is no document, `text` can be anything, since it is
+-- the reader's message.
 abbrev pub IsDocumentFaultText : Format → LookUp → List ℕ → List ℕ → Type 0
 IsDocumentFaultText format look s text =
     (((x : List ℕ) × IsFilledIn format look s x) × (text ≡ []))

@@ -30,9 +30,9 @@ LiesIn s reported = reported.position + reported.length ≤ length s
 -- the effect that a call with the result `result` has on the record of a fault
 pub record SetsFault (IsSuch : FaultRecord → Type 0) (s : List ℕ) (result : ℕ) (old new : FaultRecord)
     : Type 0 where
-  -- the new record has the property `IsSuch`
+  -- if the source is refused, the new record has the property `IsSuch`
   pub refused : result ≡ REFUSED → IsSuch new
-  -- the span of the record lies in the source s
+  -- if the source is refused, the span of the new record lies in s
   pub within : result ≡ REFUSED → LiesIn s new
   -- unless the source is refused, the record is unchanged
   pub fault_kept : result ≢ REFUSED → new ≡ old

@@ -12,7 +12,7 @@ use Rattle.subst_foreign.specs.declared.refused.ShellForm.TheVariants as form
 use Rattle.subst_foreign.specs.declared.refused.TextError.TheVariants as error
 use Rattle.subst_language.specs.Language.LookUp.{LookUp}
 
--- how an unset variable expands: to a fault if the number is 0, and otherwise to nothing
+-- how an unset variable expands: to a fault if `optional` is 0, and otherwise to nothing
 abbrev pub missing_of : (optional : ℕ) → Missing
 missing_of zero = missing.Fault
 missing_of (suc n) = missing.Nothing

@@ -1,4 +1,4 @@
--- The variables of pairs from C.
+-- Pairs of names and values from C: their look-up, and the outputs and faults of sources under it.
 use Rattle.std.specs.Prelude.{ℕ, List, IsUtf8}
 use Rattle.subst_error.specs.Fault.{Fault}
 use Rattle.subst_language.specs.Language.Answer.{Answers, Gives, Refuses}
@@ -6,7 +6,7 @@ use Rattle.subst_language.specs.Language.LookUp.{LookUp}
 use Rattle.subst_language.specs.Maps.{first_value_by}
 use Rattle.subst_c.specs.declared.pairs.Pair.{Pair}
 
--- the value of the first pair with this name
+-- the look-up of pairs: the value of the first pair with the name that is looked up
 abbrev pub pair_value : List Pair → LookUp
 pair_value pairs = first_value_by (λ pair. pair.name.now) (λ pair. pair.value.now) pairs
 

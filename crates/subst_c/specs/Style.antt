@@ -75,7 +75,8 @@ pub record IsGiven (g : Grammar) (unset : Missing) (s : List ℕ) (look : LookUp
   pub spelled : s ≡ spelling items
   pub gives : text_value g.forms unset items look ≡ Ok x
 
--- the position of the message of a variable whose name ends at `end`, or 0 if it can have no message
+-- the position of the message of a variable whose name ends at `end`, or 0 if the variable has no operator
+-- that takes a message
 abbrev pub message_after : Option Operator → (end : ℕ) → ℕ
 message_after None end = 0
 message_after (Some op) end = if takes_message op then end + length (operator_text op) else 0
@@ -91,7 +92,7 @@ fault_of_form first = record {
   message_length = 0;
 }
 
--- the record of an unset variable, with its name and its message
+-- the record of an unset variable, with the spans of the variable's name and message
 abbrev pub fault_of_variable : VariableAt → StyleFault
 fault_of_variable v = record {
   kind = 5;
@@ -155,7 +156,7 @@ abbrev pub LiesIn : List ℕ → StyleFault → Type 0
 LiesIn s fault = (fault.position + fault.length ≤ length s)
     × (fault.message_position + fault.message_length ≤ length s)
 
--- the record is that of the reason why a text isn't expanded
+-- the error isn't `OutOfMemory`, and `fault` is its record
 abbrev pub IsReported : StyleError → StyleFault → Type 0
 IsReported (style_error.Refused first) fault = fault ≡ fault_of_form first
 IsReported (style_error.Unset v) fault = fault ≡ fault_of_variable (variable_of v)

@@ -1,4 +1,4 @@
--- Texts that describe a source's fault, and tests whether sources and values are UTF-8.
+-- Whether sources and values are UTF-8, and the texts that describe a source's fault.
 use Rattle.std.specs.Prelude.{◌≡◌, ℕ, Bool, ◌&&◌, List, [], Some}
 use Rattle.std.specs.List.{list_all}
 use Rattle.std.specs.Str.{is_utf8}
@@ -16,7 +16,7 @@ abbrev pub IsFaultText : (Fault → List ℕ → Type 0) → Answer → List ℕ
 IsFaultText IsText (Gives x) text = text ≡ []
 IsFaultText IsText (Refuses f) text = IsText f text
 
--- `text` is, in the sense of `IsFaultText`, the text of an answer for which `IsAnswer` holds
+-- `IsFaultText` holds of an answer and `text`, and `IsAnswer` holds of that answer
 abbrev pub IsFaultTextOf : (Answer → Type 0) → (Fault → List ℕ → Type 0) → List ℕ → Type 0
 IsFaultTextOf IsAnswer IsText text = (a : Answer) × IsAnswer a × IsFaultText IsText a text
 

@@ -1,4 +1,5 @@
-//! The output or the fault of a source with pairs, as bytes or as texts.
+//! Expanding a source with pairs, describing the source's fault, and checking whether source and values are
+//! UTF-8.
 
 ghost use Rattle.std.specs.Prelude.{◌≡◌, ◌≤◌, IfErr, IfOk, IfSome, MatchOption, length, string_bytes, true, false};
 ghost use Rattle.std.specs.Str.{is_utf8};

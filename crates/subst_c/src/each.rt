@@ -95,7 +95,8 @@ pub fn fill_in_each(alloc: Global, source: &[u8], rows: &[Row]) -> Result<Output
     Ok(outputs)
 }
 
-/// Appends the output of the template with `row`, and the output's end. After an error no end is appended.
+/// Appends the output of the template with `row`, and the output's end. If the call fails, no end is
+/// appended.
 fn add(
     alloc: Global,
     template: &ByteTemplate,

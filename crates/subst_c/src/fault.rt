@@ -63,8 +63,8 @@ pub fn refuse(e: &Error, fault: &mut FaultRecord) -> u32
     REFUSED
 }
 
-/// Writes the missing variable of an error to `fault`, and returns `REFUSED`. Returns `OUT_OF_MEMORY` if the
-/// error is that the output's length overflows a `usize`.
+/// Writes the missing variable of `e` to `fault`, and returns `REFUSED`. Returns `OUT_OF_MEMORY` if `e` is
+/// `OutOfMemory`: the output's length overflows a `usize`.
 #[tactic(auto, using(crate::proofs::AnswerLemmas::record_of_missing))]
 pub fn refuse_missing(e: &ExpandIntoError, fault: &mut FaultRecord) -> u32
     ensures refused { result ≡ REFUSED
@@ -88,7 +88,7 @@ pub fn refuse_missing(e: &ExpandIntoError, fault: &mut FaultRecord) -> u32
     }
 }
 
-/// Returns the number of the kind of an error's fault, or `None` if the error is out of memory.
+/// Returns the number of the kind of an error's fault, or `None` if the error is `OutOfMemory`.
 pub fn kind(e: &Error) -> Option<u32>
     ensures { result ≡ option_map fault_number (error_fault e.now) }
 {

@@ -18,8 +18,9 @@ use std::alloc::{AllocError, Global};
 use subst_foreign::{Forms, Missing, Names, ShellForm, Style};
 use subst_language::VariableMap;
 
-/// Writes a template for `text` to the front of the buffer. In `text`, `$NAME` and `${NAME}` are variables if
-/// `names` has the name. No text is refused. If `optional` isn't 0, an unset variable expands to nothing.
+/// Writes a template for `text` to the front of the buffer. In `text`, variables have one of the `forms`, and
+/// a name that `names` chooses. With the callers' forms and names, no text is refused. If `optional` isn't 0,
+/// an unset variable expands to nothing.
 pub fn deliver<N: Names>(
     alloc: Global,
     text: &[u8],
@@ -56,7 +57,7 @@ fn missing_of(optional: u32) -> Missing
     }
 }
 
-/// A choice of names: those that a pair has and that no operator follows, as in `${NAME}`.
+/// The choice of the names that pairs have. Before an operator, as in `${NAME:default}`, no name is chosen.
 #[derive(Clone, Copy)]
 pub struct PlainNames<'n, 'p> {
     pub pairs: &'n Pairs<'p>,

@@ -1,9 +1,10 @@
 //! The C interface of the library: variables come as pairs, and outputs go into the caller's buffer.
 //!
-//! `include/subst.h.in` declares the functions, and docs/C.md shows how to call them. Each function returns
-//! one of the numbers of [`outcome`]. No argument is null: if a length is 0, the header passes an address of
-//! its own. In a pair or a row, a pointer with the length 0 may be null. Tests cover this case, but the
-//! contracts don't. An argument that a function writes to overlaps no other argument.
+//! `include/subst.h.in` declares the functions, and docs/C.md shows how to call them. Each function except
+//! `subst_version` returns one of the numbers of [`outcome`]. No argument is null: if a length is 0, the
+//! header passes an address of its own. In a pair or a row, a pointer with the length 0 may be null. Tests
+//! cover this case, but the contracts don't. An argument that a function writes to overlaps no other
+//! argument.
 #![tactic(auto)]
 
 ghost use Rattle.std.specs.Prelude.{◌≡◌, ◌≢◌, ◌⊎◌, ◌↔◌, ◌+◌, ◌*◌, ◌<◌, ◌++◌, ℕ, List, drop, length, true, false};
@@ -85,7 +86,7 @@ pub extern "C" fn subst_bytes(
     ensures fault { SetsFault (IsRecordOf (RefusedBy source.now pairs.now)) source.now
         result fault.old fault.new }
 
-    // The only other result is out of memory.
+    // A result other than `DONE`, `REFUSED` and `ROOM_TOO_SMALL` is `OUT_OF_MEMORY`.
     ensures others { IsOther result }
 {
     match answer::fill_in(alloc, source, pairs) {
@@ -135,7 +136,7 @@ pub extern "C" fn subst_bytes_into(
     needed: &mut usize,
     fault: &mut FaultRecord,
 ) -> u32
-    // As for `subst_bytes`.
+    // As for `subst_bytes`, except that a failed call may change the buffer.
     ensures done { result ≡ DONE
         → IsPut (GivenBy source.now pairs.now) needed.new buffer.old buffer.new }
     ensures too_small { result ≡ ROOM_TOO_SMALL
@@ -207,12 +208,14 @@ pub extern "C" fn subst_bytes_each(
         × IsPut (λ x. AreOutputs source.now rows.now x outputs_end) needed.new buffer.old buffer.new
         × (ends.new ≡ outputs_end ++ drop (length outputs_end) ends.old) }
 
-    // Either the source is no sentence, the fault is that of the source, and `row` is 0. Or `row` is the
-    // index of the first row with which the source is refused, and the fault is that of this refusal.
+    // The fault and `row` are those of the first refusal. If the source is no sentence, the fault is that of
+    // the source, and `row` is 0. Otherwise `row` is the index of the first row with which the source is
+    // refused, and the fault is that of this refusal.
     ensures fault { SetsFault (IsRecordOf (IsRefusedIn source.now rows.now row.new)) source.now
         result fault.old fault.new }
 
-    // The outputs are longer than the buffer, or `ends` has fewer elements than there are outputs.
+    // If the result is `ROOM_TOO_SMALL`, the outputs are longer than the buffer, or `ends` has fewer elements
+    // than there are outputs.
     ensures too_small { result ≡ ROOM_TOO_SMALL
         → (x : List ℕ) × (outputs_end : List ℕ) × AreOutputs source.now rows.now x outputs_end
         × (needed.new ≡ length x)
@@ -235,7 +238,7 @@ pub extern "C" fn subst_bytes_each(
 }
 
 /// Fills in the strings of `source`, a JSON document, from `pairs`, and writes the output to the front of the
-/// buffer. All other bytes are unchanged. The source and all values have to be UTF-8.
+/// buffer. All other bytes of the output are those of the source. The source and all values have to be UTF-8.
 #[unsafe(no_mangle)]
 pub extern "C" fn subst_json(
     alloc: Global,
@@ -249,8 +252,8 @@ pub extern "C" fn subst_json(
     ensures buffer { FillsBuffer (IsFilledIn Json (pair_value pairs.now) source.now)
         result needed.old needed.new buffer.old buffer.new }
 
-    // The source is no document, or the fault is that of the first refused string, with the fault's span in
-    // the document.
+    // If the source is refused, either it is no document, or the fault is that of its first refused string.
+    // The fault's span is in the source.
     ensures fault { SetsFault (IsReported Json (pair_value pairs.now) source.now) source.now
         result fault.old fault.new }
 
@@ -281,8 +284,8 @@ pub extern "C" fn subst_toml(
     ensures buffer { FillsBuffer (IsFilledIn Toml (pair_value pairs.now) source.now)
         result needed.old needed.new buffer.old buffer.new }
 
-    // The source is no document, or the fault is that of the first refused string, with the fault's span in
-    // the document.
+    // If the source is refused, either it is no document, or the fault is that of its first refused string.
+    // The fault's span is in the source.
     ensures fault { SetsFault (IsReported Toml (pair_value pairs.now) source.now) source.now
         result fault.old fault.new }
 
@@ -313,8 +316,8 @@ pub extern "C" fn subst_yaml(
     ensures buffer { FillsBuffer (IsFilledIn Yaml (pair_value pairs.now) source.now)
         result needed.old needed.new buffer.old buffer.new }
 
-    // The source is no document, or the fault is that of the first refused string, with the fault's span in
-    // the document.
+    // If the result is `REFUSED`, the source is no document, or the fault is that of the first refused
+    // string. The fault's span is a span of the document.
     ensures fault { SetsFault (IsReported Yaml (pair_value pairs.now) source.now) source.now
         result fault.old fault.new }
 
@@ -360,7 +363,7 @@ pub extern "C" fn subst_variables(
     ensures buffer { FillsBuffer (HasRecords source.now (variables_of 0))
         result needed.old needed.new buffer.old buffer.new }
 
-    // The source is no sentence, and the fault is the one that it is refused for.
+    // If the result is `REFUSED`, the source is no sentence, and the fault is the one that it is refused for.
     ensures fault { SetsFault (IsRecordOf (HasFault 0 source.now)) source.now
         result fault.old fault.new }
     ensures others { IsOther result }
@@ -458,7 +461,8 @@ pub extern "C" fn subst_json_fault_text(
     }
 }
 
-/// Writes the text of the fault of `subst_toml` to the front of the buffer, like `subst_json_fault_text`.
+/// Writes to the front of the buffer the text of the fault that `subst_toml` reports, as
+/// `subst_json_fault_text` does for `subst_json`.
 #[unsafe(no_mangle)]
 pub extern "C" fn subst_toml_fault_text(
     alloc: Global,
@@ -482,7 +486,8 @@ pub extern "C" fn subst_toml_fault_text(
     }
 }
 
-/// Writes the text of the fault of `subst_yaml` to the front of the buffer, like `subst_json_fault_text`.
+/// Writes to the front of the buffer the text of the fault that `subst_yaml` reports, as
+/// `subst_json_fault_text` does for `subst_json`.
 #[unsafe(no_mangle)]
 pub extern "C" fn subst_yaml_fault_text(
     alloc: Global,
@@ -588,7 +593,8 @@ pub extern "C" fn subst_bytes_by_style(
     // The fault is that of the first refused form, or, if there is none, of the missing variable.
     ensures fault { SetsStyleFault style.now pairs.now source.now result fault.old fault.new }
 
-    // The result is `NO_SUCH_STYLE` exactly if the style has a number that no choice has.
+    // The result is `NO_SUCH_STYLE` exactly if `forms`, `names` or `missing` of the style isn't a defined
+    // number.
     ensures style { result ≢ NO_SUCH_STYLE → (choices : Choices) × AreOf style.now choices }
     ensures no_style { result ≡ NO_SUCH_STYLE → (choices : Choices) → ¬ (AreOf style.now choices) }
     ensures others { result ≢ NO_SUCH_STYLE → IsOther result }
@@ -716,8 +722,8 @@ pub extern "C" fn subst_from_shell(
     }
 }
 
-/// Writes to the front of the buffer the text of the form with the number `form`, as `subst_from_shell`
-/// reports it. If no form has the number, the text is empty.
+/// Writes to the front of the buffer the message for a refused form. `form` is the form's number, as
+/// `subst_from_shell` reports it. If no form has this number, the message is empty.
 #[unsafe(no_mangle)]
 pub extern "C" fn subst_shell_form_text(
     alloc: Global,

@@ -21,5 +21,5 @@ pub const NOT_A_BOUNDARY: u32 = 7;
 /// The output of a document isn't confirmed to be right.
 pub const NOT_CONFIRMED: u32 = 8;
 
-/// A style has a number that no choice has.
+/// A style's `forms`, `names` or `missing` isn't a defined number.
 pub const NO_SUCH_STYLE: u32 = 9;

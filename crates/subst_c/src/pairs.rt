@@ -1,4 +1,4 @@
-//! Pairs of names and values, as C passes them, and maps of variables from them.
+//! Pairs of names and values, as C passes them, and maps of variables made from such pairs.
 
 ghost use Rattle.std.specs.Prelude.{◌≡◌, ℕ, List, Some, None, true, if◌then◌else◌, OnOk, IfOk, IfSome};
 ghost use Rattle.std.proofs.Props.{props};

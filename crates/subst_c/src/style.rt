@@ -33,7 +33,7 @@ use subst_foreign::{
 use subst_language::{NoEmpty, Variable, laws};
 use subst_template::ByteTemplate;
 
-/// A refused form of the text.
+/// A kind of fault: the text has a form that is refused.
 pub const REFUSED_FORM: u32 = 7;
 
 /// A style for texts, as the numbers of its choices. `only` has the names for the choice [`Choice::Only`].
@@ -111,7 +111,6 @@ impl StyleRecord<'_> {
 }
 
 /// The names that are variables by `choice`: all, the names of `only`, or the names with a value in `given`.
-/// With [`Choice::Known`], all names in forms with an operator are variables too.
 /// With [`Choice::Known`], all names in forms with an operator are variables too.
 #[derive(Drop)]
 struct ChosenNames<'o, 'g> {

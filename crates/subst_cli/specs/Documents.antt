@@ -49,7 +49,7 @@ IsNoDocument Json text = ¬ (json.ReadsAsTree text (λ _. ⊤))
 IsNoDocument Toml text = ¬ (toml.ReadsAsTree text (λ _. ⊤))
 IsNoDocument Yaml text = ¬ (yaml.ReadsAs text (λ _. ⊤))
 
--- the cause is that a text isn't a document, and `IsNone` holds; or that the output isn't confirmed
+-- either the cause is that a text isn't a document, and `IsNone` holds, or the cause is `NotConfirmed`
 abbrev pub IsUnread : Type 0 → Cause → Type 0
 IsUnread IsNone (Mistake mistake) = IsNone
 IsUnread IsNone (NotADocument message) = IsNone
@@ -71,8 +71,8 @@ RefusesString Toml filler text =
 RefusesString Yaml filler text = (f : library.Fault)
     × yaml.ReadsAs text (λ es. RefusesFirst (AnswersBy filler) (yaml_strings text es) f)
 
--- the first list of bytes is a token of the format, or a scalar of YAML, that spells the second list as a
--- string
+-- the first list of bytes spells the string in the second list; the first list is a token of the format, or
+-- in YAML a scalar
 abbrev pub IsToken : Format → List ℕ → List ℕ → Type 0
 IsToken Json = IsStringToken
 IsToken Toml = IsQuotedToken
@@ -116,7 +116,8 @@ pub record IsStringIn (format : Format) (text written : List ℕ) (it : StringAt
 abbrev pub without_path : {Path : Type 0} → RefusalAt Path → StringAt
 without_path it = record { text = it.text; span = it.span }
 
--- the refusal `it` is kept as a pair: the text of its path by `display`, and its string with the span
+-- the refusal `it` is kept as a pair: the path as a text, and the refused string with its span; if `display`
+-- returns a text for the path, the pair has that text
 abbrev pub IsKept : {Path : Type 0} → (Path → Option (List ℕ)) → RefusalAt Path → String Global × StringAt
     → Type 0
 IsKept display it (path, kept) =
@@ -165,8 +166,8 @@ abbrev pub AreReported : Format → (text : List ℕ) → (path : List ℕ) → 
 AreReported format text path token faults reported = (places : List (Range ℕ))
     × ArePlaces format text token (ranges_of faults) places × AllZip (IsReported path) (zip faults places) reported
 
--- `it` is a fault of the string `one` of the document `text`, with the string's path; the fault's span in
--- `text` is found together with the spans of other faults
+-- `it` is a fault of the string `one` of the document `text`, with the string's path and the fault's span in
+-- `text`; this span is one of `places`, the spans for all of `faults`
 abbrev pub IsFaultAt : Format → Placeholders → List Entry → List ℕ → (path : List ℕ) → StringAt → Fault → Type 0
 IsFaultAt format placeholders entries text path one it =
     (x : Fault) × IsFaultOf placeholders entries (text_at one) x

@@ -33,7 +33,7 @@ use Rattle.subst_foreign.specs.declared.forms.Missing.TheVariants as missing
 use Rattle.subst_foreign.specs.declared.refused.FormAt.{FormAt}
 use Rattle.subst_foreign.specs.declared.refused.TextError.TheVariants as errors
 
--- the grammar of values: a shell's forms, and all names
+-- the grammar of values: the forms of a shell, with all names chosen
 abbrev pub shell : Grammar
 shell = grammar Shell true (λ operated name. Unit {0})
 
@@ -124,8 +124,8 @@ FilesLeave above before (s ∷ files) after = (middle : List Entry) × Leaves ab
 abbrev pub IsFaultOfFile : (above before : List Entry) → (s : List ℕ) → Fault → Type 0
 IsFaultOfFile above before s it = IsNoText s it ⊎ Stops above before (after_mark s) it.cause
 
--- `it` reports the first refused file of `files`: `done` precede that file and leave the entries `before`,
--- and at least one of the faults in `it` is a fault of that file
+-- `it` reports the first refused file of `files`; the files `done` precede that file and leave the entries
+-- `before`; at least one of the faults in `it` is a fault of that file
 pub record IsFirstRefused (above : List Entry) (files : List (List ℕ)) (it : Refused) : Type 0 where
   pub done : List (List ℕ)
   pub later : List (List ℕ)
@@ -147,14 +147,14 @@ HasLast set = (name : List ℕ) → value_in set.values name ≡ look_up_in (rev
 abbrev pub look_up_by : Scope → LookUp
 look_up_by scope name = option_or (value_under scope.above.now.values name) (value_in scope.set.now name)
 
--- the fault `f` is that the text `s` needs a variable that is missing under `look`; the template of `s` may
--- look the variable up with a digit before the name
+-- the fault `f` reports a variable that is required in the text `s` and missing under `look`; in `f`, as in
+-- the template of `s`, a digit may precede the variable's name
 abbrev pub IsMissingOf : LookUp → (s : List ℕ) → fault.Fault → Type 0
 IsMissingOf look s f = (position : ℕ) × (name : List ℕ) × (f ≡ fault.NoSuchVariable position name)
     × IsValueOf look s (Err (without_question name))
 
--- the error is right for the text `s` under the look-up `look`: the first refused form of the text, or a
--- required variable that is missing
+-- the error is the first refused form of the text `s`, a required variable that is missing under the look-up
+-- `look`, or out of memory
 abbrev pub IsFaultOf : LookUp → (s : List ℕ) → Unexpanded → Type 0
 IsFaultOf look s (unexpanded.Text e) = IsRefusalOf shell s e
 IsFaultOf look s (unexpanded.Variable e) = IfSome (error_fault e) (IsMissingOf look s)

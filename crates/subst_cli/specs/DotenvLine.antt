@@ -58,7 +58,7 @@ abbrev pub is_text : Quote → List ℕ → Bool
 is_text Single s = true
 is_text quote s = begins_with backslash s
 
--- the shell-style text of the byte `b`, which begins no escape, before the bytes `s`
+-- the shell-style text of the byte `b`, which begins no escape and which the bytes `s` follow
 abbrev pub byte_text : Quote → ℕ → List ℕ → List ℕ
 byte_text quote b s = if b == dollar && is_text quote s then dollars else b ∷ []
 
@@ -79,13 +79,14 @@ abbrev pub at_end : Quote → Option Text
 at_end Bare = Some (record { text = []; rest = [] })
 at_end _ = None
 
--- `pair`, the text of two bytes, prepended to the value `after_pair`; without a `pair`, the text `bytes` of
--- one byte prepended to the value `after_byte`
+-- `pair` prepended to the value `after_pair`, or `bytes` prepended to the value `after_byte` if there is no
+-- `pair`; `pair` is the text of two bytes, `bytes` that of one
 abbrev pub joined : Option (List ℕ) → List ℕ → Option Text → Option Text → Option Text
 joined (Some pair) bytes after_pair after_byte = before pair after_pair
 joined None bytes after_pair after_byte = before bytes after_byte
 
--- the value in these quotes, from the bytes after its opening quote; none if the closing quote is missing
+-- the value with these quotes, parsed from the bytes after its opening quote, if any; none if this quote
+-- isn't closed
 abbrev pub text_in : Quote → List ℕ → Option Text
 text_in quote [] = at_end quote
 text_in quote (b ∷ []) =
@@ -95,8 +96,8 @@ text_in quote (b ∷ c ∷ s) =
     if closes quote b (c ∷ s) then Some (record { text = []; rest = c ∷ s })
     else joined (pair_text quote b c) (byte_text quote b (c ∷ s)) (text_in quote s) (text_in quote (c ∷ s))
 
--- the first line of a text, with the text after it: an empty line or a comment; a line that sets a name to a
--- shell-style text; or a wrong one
+-- the first line of a text: an empty line or a comment; a line that sets a name to a shell-style text; or a
+-- wrong line. `rest` is the text after the line
 pub data Line : Type 0 where
   Nothing : (rest : List ℕ) → Line
   Sets : (name text rest : List ℕ) → Line
@@ -137,8 +138,8 @@ abbrev pub opening : List ℕ → Quote
 opening [] = Bare
 opening (b ∷ s) = if b == 39 then Single else if b == 34 then Double else Bare
 
--- the line that sets a name to this value without quotes, before the text `later`; a wrong line if there is
--- no value
+-- the line that sets a name to this unquoted value, trimmed of blanks on both sides; `later` is the text
+-- after the line. Without a value, the line is wrong
 abbrev pub bare_line : (name later : List ℕ) → Option Text → Line
 bare_line name later None = Wrong
 bare_line name later (Some t) = Sets name (trimmed (after_blanks t.text)) later
@@ -150,13 +151,13 @@ quoted_line name None = Wrong
 quoted_line name (Some t) =
     if is_ended (first_line t.rest) then Sets name t.text (later_lines t.rest) else Wrong
 
--- the line that sets a name, parsed from the text `s` after `=`, for a value in these quotes
+-- the line that sets a name to a value with these quotes, parsed from `s`, the text after `=`
 abbrev pub value_line : Quote → (name s : List ℕ) → Line
 value_line Bare name s = bare_line name (later_lines s) (text_in Bare (first_line s))
 value_line quote name s = quoted_line name (text_in quote (drop 1 (after_blanks s)))
 
--- the line that sets a name, parsed from the text `s` after the name and its blanks; a wrong line if `s`
--- doesn't begin with `=`
+-- the line that sets a name, parsed from the text `s` after the name and the blanks that follow it; a wrong
+-- line if `s` doesn't begin with `=`
 abbrev pub line_after : (name s : List ℕ) → Line
 line_after name [] = Wrong
 line_after name (b ∷ s) = if b == 61 then value_line (opening (after_blanks s)) name s else Wrong

@@ -36,7 +36,8 @@ IsUnreadableName name _ = ⊥
 abbrev pub IsUnreadableAt : ℕ → List ℕ → Fault → Type 0
 IsUnreadableAt position name it = IsUnreadableName name it.cause × (it.range.start ≡ position)
 
--- the fault is that the value of one of `variables` isn't UTF-8, and this is true
+-- one of `variables` has a value in `entries` that isn't UTF-8, and the fault reports this value at the
+-- variable's position
 abbrev pub IsUnreadableAmong : Option Forms → List Entry → List Variable → Fault → Type 0
 IsUnreadableAmong forms entries variables it = (v : Variable) × Contains variables v
     × IsUnreadable entries (looked_up_name forms v.name)
@@ -64,7 +65,7 @@ abbrev pub IsMovedTo : Placeholders → List Entry → (s template : List ℕ) �
 IsMovedTo Own entries s template x it = it ≡ x
 IsMovedTo (Chosen chosen) entries s template x it = IsMappedIn (grammar_of chosen entries) s template x it
 
--- `it` is a fault of the template of `s`, a text or byte string, mapped back to `s`
+-- `it` is a fault of the template of the text or byte string `s`, mapped back to `s`
 abbrev pub IsFaultByTemplate : Placeholders → List Entry → List ℕ → Fault → Type 0
 IsFaultByTemplate placeholders entries s it = (template : List ℕ) × IsTemplateFor placeholders entries s template
     × (x : Fault) × IsFaultBy (forms_of placeholders) entries template x
@@ -103,6 +104,6 @@ lacks_unreadable forms variables (error.NoSuchVariable e) =
     has_unreadable variables (looked_up_name forms (string_bytes e.name))
 lacks_unreadable forms variables _ = false
 
--- the fault is that the bytes aren't UTF-8, which is true, and its range begins at the first invalid byte
+-- the bytes aren't UTF-8, and the fault reports this with a range that begins at the first invalid byte
 abbrev pub IsNoText : List ℕ → Fault → Type 0
 IsNoText s it = (it.cause ≡ NotUtf8) × (¬ (IsUtf8 s)) × IsValidUpTo s it.range.start

@@ -107,8 +107,8 @@ looked_up_name _ name = name
 abbrev pub Agrees : List Entry → LookUp → Type 0
 Agrees entries look = (name : List ℕ) → ¬ (IsUnreadable entries name) → look name ≡ look_up_in entries name
 
--- the template expands to the output with the values of the entries, no matter what is taken for a value that
--- isn't UTF-8
+-- the template expands to the output with the values of the entries; for a name whose value isn't UTF-8, any
+-- value or none leads to this output
 abbrev pub GivesBy : Option Forms → List Entry → List ℕ → List ℕ → Type 0
 GivesBy forms entries template output =
     (look : LookUp) → Agrees entries look → Answers template (look_for forms look) (Gives output)

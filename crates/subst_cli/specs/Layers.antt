@@ -14,7 +14,7 @@ use Rattle.subst_cli.specs.declared.layers.Variables.{Variables}
 use Rattle.subst_cli.specs.declared.options.Escape.{Escape}
 use Rattle.subst_cli.specs.declared.options.Escape.TheVariants.{Nothing, Json, Sh}
 
--- a name and its value, or no value if its bytes aren't UTF-8
+-- a name and its value, or no value if the value's bytes aren't UTF-8
 pub record Entry : Type 0 where
   pub name : List ℕ
   pub value : Option (List ℕ)
@@ -27,7 +27,7 @@ entry_of entry = record { name = string_bytes entry.name; value = option_map str
 abbrev pub entries_of : List owned.Entry → List Entry
 entries_of entries = map entry_of entries
 
--- the value of a name's first entry, if there is one
+-- the value of a name's first entry, if the name has an entry
 abbrev pub entry_value : List Entry → List ℕ → Option (Option (List ℕ))
 entry_value entries name = option_map (λ entry. entry.value) (find (λ entry. bytes_eq name entry.name) entries)
 
@@ -72,8 +72,9 @@ abbrev pub entries_of_pairs : List (String Global × String Global) → List Ent
 entries_of_pairs pairs =
     map (λ pair. record { name = string_bytes pair.0; value = Some (string_bytes pair.1) }) pairs
 
--- The entries of higher precedence than .env files, the highest first: those of options, then those of values
--- files, then those of the environment. The entries of options and of values files are in reverse order.
+-- The entries of higher precedence than .env files, the highest first: those of options (`set`), of values
+-- files (`lines`), and of the environment. Both `set` and `lines` are reversed, so that their last entries
+-- come first.
 abbrev pub above : (set lines environment : List Entry) → List Entry
 above set lines environment = reverse (lines ++ set) ++ environment
 

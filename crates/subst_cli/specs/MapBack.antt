@@ -28,7 +28,7 @@ last_at (pair ∷ pairs) at = option_or (last_at pairs at) (if pair.0 == at then
 abbrev pub counterpart : List ℕ → List VariableAt → ℕ → Option VariableAt
 counterpart positions variables at = last_at (zip positions variables) at
 
--- the positions of the variables in a template, by its tree
+-- the positions of the variables in the template with the tree `t`
 abbrev pub positions_of : Tree → List ℕ
 positions_of t = map (λ v. v.position) (variables_of 0 t)
 

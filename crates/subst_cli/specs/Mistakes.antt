@@ -48,15 +48,14 @@ abbrev pub last_of : ℕ → List ℕ → ℕ
 last_of last [] = last
 last_of last (b ∷ bs) = last_of (if is_ascii_whitespace b then last else b) bs
 
--- the half of a surrogate pair, by the second digit `b` of its escape (the 8 of `\ud800`); none if neither
--- half's escape has this second digit
+-- the half of a surrogate pair whose escape has the second digit `b` (the 8 of `\ud800`), if there is one
 abbrev pub half_by : ℕ → Option SurrogateHalf
 half_by b =
     if is_in_range 56 57 b || (is_in_range 97 98 b || is_in_range 65 66 b) then Some First
     else if is_in_range 99 102 b || is_in_range 67 70 b then Some Second
     else None
 
--- the bytes begin with `\uD` or `\ud` and, after any byte, two hexadecimal digits
+-- the bytes begin with `\uD` or `\ud`, then any byte, then two hexadecimal digits
 abbrev pub is_surrogate_at : List ℕ → Bool
 is_surrogate_at bs = (get_or bs 0 0 == 92) && ((get_or bs 1 0 == 117)
     && ((get_or bs 2 0 == 100 || get_or bs 2 0 == 68)
@@ -94,8 +93,8 @@ after_half (Some Second) = 1
 abbrev pub after_first : List ℕ → ℕ
 after_first bs = if get_or bs 0 0 == 92 then after_half (half_at bs) else 0
 
--- the index of the first lone surrogate (half a pair without the other half) in the bytes of a string from
--- index `at` on; the first `to_skip` bytes are skipped
+-- the index of the first lone surrogate (half a pair without the other half) before the closing quote; the
+-- bytes begin at index `at` of a string, and the first `to_skip` are skipped
 abbrev pub lone_at : ℕ → ℕ → List ℕ → Option ℕ
 lone_at at to_skip [] = None
 lone_at at (suc to_skip) (b ∷ bs) = lone_at (at + 1) to_skip bs

@@ -24,8 +24,8 @@ AnswersBy filler s (Refuses f) =
 abbrev pub GivesSome : StringFiller → List ℕ → Type 0
 GivesSome filler s = (x : List ℕ) × AnswersBy filler s (Gives x)
 
--- `faults` is empty and `IsFine` holds; or `IsSo` holds for the entries of the filler's variables and one of
--- `faults`
+-- `faults` is empty and `IsFine` holds; or one of `faults` satisfies `IsSo` with the entries of the filler's
+-- variables
 abbrev pub AreFaults : StringFiller → Type 0 → (List Entry → Fault → Type 0) → List Fault → Type 0
 AreFaults filler IsFine IsSo faults = ((faults ≡ []) × IsFine)
     ⊎ ((entries : List Entry) → FillsFrom filler entries → Any (IsSo entries) faults)

@@ -1,4 +1,4 @@
--- The templates of a path.
+-- The templates of a path: a file, or files of a directory and its subdirectories.
 use Rattle.std.specs.Prelude.{◌≡◌, ◌⊎◌, ℕ, IsTrue, List, nat_eq, string_bytes}
 use Rattle.std.specs.List.{ends_with}
 use Rattle.subst_cli.specs.declared.templates.Template.{Template}

@@ -26,7 +26,7 @@ without_return line =
 abbrev pub line_feed : List ℕ
 line_feed = 10 ∷ []
 
--- the bytes without their last line end: a line feed, or a carriage return and a line feed
+-- the bytes without a final line end: a line feed, or a carriage return and a line feed
 abbrev pub without_line_end : List ℕ → List ℕ
 without_line_end bytes =
     if bytes_eq (drop (length bytes - 1) bytes) line_feed
@@ -90,7 +90,7 @@ abbrev pub with_file : Option (List Entry) → Option (List Entry) → Option (L
 with_file None later = None
 with_file (Some entries) later = before entries later
 
--- the bytes of a file as a value: for `Removed` without their last line end, for `Kept` unchanged
+-- the bytes of a file as a value: without a final line end for `Removed`, unchanged for `Kept`
 abbrev pub value_bytes : LineEnd → List ℕ → List ℕ
 value_bytes Removed bytes = without_line_end bytes
 value_bytes Kept bytes = bytes

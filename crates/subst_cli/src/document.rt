@@ -127,7 +127,7 @@ fn faults_in(
     }
 }
 
-/// Returns the fault of a document whose output or positions can't be confirmed.
+/// Returns the fault of a document whose output, or whose strings' positions, can't be confirmed.
 fn not_confirmed(alloc: Global) -> Result<Vec<Fault>, AllocError>
     ensures { IfOk result (λ faults. Any (λ it. it.cause ≡ cause.NotConfirmed) faults.items) }
 {

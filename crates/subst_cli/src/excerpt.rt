@@ -56,7 +56,8 @@ fn around(source: &[u8], offset: usize) -> Range<usize> {
     }
 }
 
-/// Returns the range of the line around an offset, cut to `most` bytes before and `most` after the offset.
+/// Returns the range of the line around an offset, cut to about `most` bytes before and `most` after the
+/// offset.
 fn within(source: &[u8], offset: usize, most: usize) -> Range<usize> {
     let first = character_start(source, offset.saturating_sub(most));
     let last = character_start(source, offset.saturating_add(most).min(source.len()));
@@ -77,7 +78,8 @@ fn within(source: &[u8], offset: usize, most: usize) -> Range<usize> {
     start..end
 }
 
-/// Returns the offset of the first byte of the character at an offset, if the source is UTF-8 there.
+/// Returns the offset of the first byte of the character at `offset`. If the source isn't UTF-8 there, the
+/// result is at most three bytes before `offset`.
 fn character_start(source: &[u8], offset: usize) -> usize {
     let mut start = offset;
     for _ in 0..3 {
@@ -94,7 +96,8 @@ fn is_line_end(b: u8) -> bool {
     b == b'\n' || b == b'\r'
 }
 
-/// Returns whether the byte at an offset ends a line. Also `true` if there is no byte, or for `None`.
+/// Returns whether the byte at an offset ends a line. The result is also `true` if the offset is `None` or
+/// outside the source.
 fn is_at_line_end(source: &[u8], offset: Option<usize>) -> bool {
     let byte = offset.and_then(|at| source.get(at));
     byte.is_none_or(|b| is_line_end(*b))
@@ -125,8 +128,8 @@ impl Piece {
     }
 }
 
-/// Returns the excerpt of a line. `before` is the piece before the fault, `after` the piece from the fault
-/// on, and `carets` the fault's width in columns.
+/// Returns the excerpt of a line. The piece `before` ends at the fault's start, and the piece `after` begins
+/// there. `carets` is the fault's width in columns.
 fn underlined(
     alloc: Global,
     before: &Piece,

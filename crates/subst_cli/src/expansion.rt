@@ -30,8 +30,8 @@ use subst::escape::is_plain;
 pub type Outputs = Result<Vec<u8>, Vec<Refused>>;
 
 /// Expands every source with the run's variables. Returns the concatenated outputs, or all refused sources if
-/// there are any. Unless `--optional` is set, appends a hint to `unset` for each unset variable of
-/// shell-style texts that expands to nothing.
+/// there are any. Unless `--optional` is set, appends a hint to `unset` for each unset variable that expands
+/// to nothing in a shell-style text.
 ///
 /// # Errors
 ///
@@ -60,7 +60,7 @@ pub fn fill_in(
     expander.fill_all(alloc, sources)
 }
 
-/// Appends a hint for each unset variable of shell-style sources that expands to nothing.
+/// Appends a hint to `unset` for each unset variable that expands to nothing in a shell-style source.
 fn add_unset_hints(
     alloc: Global,
     expander: &Expander<'_, '_, '_>,
@@ -151,7 +151,7 @@ fn kept(entries: Vec<Entry>, no_empty: bool) -> Vec<Entry>
 pub struct Expander<'r, 'w, 'v> {
     /// The rule for the format of each source.
     pub formats: FormatRule<'w>,
-    /// The forms and names that are variables in the sources.
+    /// The placeholders in the sources: which parts of a source are variables.
     pub placeholders: &'r Placeholders<'w>,
     /// The variables with which the sources are expanded.
     pub variables: Variables<'v>,

@@ -13,8 +13,8 @@ use subst::foreign::ShellForm;
 /// A diagnostic: the cause of a fault, and its range in the source.
 #[derive(Drop)]
 pub struct Fault {
-    /// The path of the document's string that has the fault. It is empty outside documents, and if the
-    /// document is a single string.
+    /// The path of the document's string that has the fault. It is empty if the document is a single string,
+    /// or if no string of a document has the fault.
     pub path: String,
     /// The range of the fault, in byte offsets.
     pub range: Range<usize>,
@@ -54,7 +54,8 @@ pub struct Unset {
     pub name: String,
     /// Whether the variable is set, but empty.
     pub is_empty: bool,
-    /// The variable's message with control characters escaped, or an empty text.
+    /// The error message of the variable's `?` or `:?`, with control characters escaped. It is empty if there
+    /// is none.
     pub message: String,
 }
 

@@ -26,7 +26,8 @@ pub(crate) enum LookUpValues<'m, 'v> {
 }
 
 impl<'m, 'v> LookUpValues<'m, 'v> {
-    /// Returns the map for a template. `forms` are those of the text that was converted into it, if any.
+    /// Returns the map for a template. `forms` are the forms of the text that was converted into the
+    /// template, or `None` if the source is a template itself.
     pub fn of(values: &'m Values<'v>, forms: Option<Forms>) -> Self
         ensures { look_up_of result ≡ look_for forms (value_under values.now) }
     {

@@ -28,7 +28,8 @@ impl FormatRule<'_> {
     }
 }
 
-/// Returns the format that a path's ending names, or text for an unknown ending. The case of letters matters.
+/// Returns the format for a path's ending, or [`InputFormat::Text`] if the ending is unknown. The case of
+/// letters matters.
 fn format_by_ending(path: &[u8]) -> InputFormat
     ensures { result ≡ rule.format_by_ending path.now }
 {

@@ -55,7 +55,7 @@ fn is_missing(fault: &Fault) -> bool {
     )
 }
 
-/// Returns whether a fault is a dollar without a name or an invalid escape. Such faults suggest a text of
+/// Returns whether a fault is an invalid escape, or a dollar without a name. Such faults suggest a text of
 /// another tool.
 fn is_of_a_special_byte(fault: &Fault) -> bool {
     matches!(
@@ -64,8 +64,8 @@ fn is_of_a_special_byte(fault: &Fault) -> bool {
     )
 }
 
-/// Returns the hint for a source's first default that looks like another tool's. Returns `None` if there is
-/// none, or for a document.
+/// Returns the hint for a source's first default that looks like another tool's. Returns `None` for a
+/// document, or if the first `SEARCHED_BYTES` bytes have no such default.
 pub(crate) fn default_hint(
     alloc: Global,
     options: &Options<'_>,
@@ -141,8 +141,8 @@ pub(crate) fn hint_at(
     format!(in alloc; "{name}:{line}:{column}: hint: {what}\n")
 }
 
-/// Returns the hint for a TOML document's first fault that is a variable outside of strings, or `None` if
-/// there is none.
+/// Returns the hint for a TOML document's first fault that is a variable outside of strings. Returns `None`
+/// if there is no such fault, or for another format.
 pub(crate) fn document_hint(
     alloc: Global,
     format: InputFormat,
@@ -333,7 +333,8 @@ fn shell_line(bytes: &[u8]) -> Option<(usize, &'static str)> {
     None
 }
 
-/// Returns the byte offset of `export` or of a quoted value in a values line, with its hint, or `None`.
+/// Returns the byte offset of `export` or of a quoted value in a line of a values file, with its hint, or
+/// `None`.
 fn shell_part(line: &[u8]) -> Option<(usize, &'static str)> {
     let line = line.strip_suffix(b"\r").unwrap_or(line);
     let begun = line.trim_ascii_start();

@@ -37,7 +37,7 @@ pub struct Variables<'v> {
 }
 
 impl<'v> Variables<'v> {
-    /// Returns the variables of entries; the first entry with a name wins.
+    /// Returns the variables of entries. If several entries have the same name, the first one wins.
     ///
     /// # Errors
     ///
@@ -101,7 +101,7 @@ impl<'v> Variables<'v> {
     }
 }
 
-/// Returns whether a map has a name.
+/// Returns whether a map has a value under a name.
 fn has(values: &Values<'_>, name: &str) -> bool
     ensures { result ≡ is_some (value_under values.now name.now) }
 {

@@ -23,7 +23,7 @@ use subst::{ByteTemplate, Error, Variable, VariableMap, substitute_bytes};
 pub(crate) type Counterparts<'t> = HashMap<usize, TextVariable<'t>>;
 
 /// Maps a template's faults back to the text that was converted into the template. `counterparts` has the
-/// text's variable for each of the template's.
+/// text's variables, by the positions of the same variables in the template.
 ///
 /// # Errors
 ///
@@ -149,7 +149,7 @@ where
     }
 }
 
-/// Returns the variables of a text, by the positions of its template's variables, which have the same order.
+/// Returns the variables in `text`, by the positions of the variables with the same indices in `template`.
 ///
 /// # Errors
 ///
@@ -169,8 +169,8 @@ fn paired<'t>(
     Ok(counterparts)
 }
 
-/// Maps a template's fault back to the text: to the position of `found`, or to the same position if `found`
-/// is `None`.
+/// Maps a template's fault back to the text. The fault moves to the position of `found`, or keeps its
+/// position if `found` is `None`.
 ///
 /// # Errors
 ///
@@ -228,7 +228,7 @@ fn map_cause_back(
     Ok(cause)
 }
 
-/// Returns the unset variable `name`, with the message of `found`, the variable's use in the text.
+/// Returns the unset variable `name`. Its message is that of `found`, the variable's use in the text.
 ///
 /// # Errors
 ///

@@ -83,7 +83,7 @@ pub struct Chosen<'w> {
 pub enum Choice<'w> {
     /// All names.
     All,
-    /// The names of a list, and all names that begin with one of these texts.
+    /// The names in the first field, and all names that begin with a text in the second field.
     Only(OnlyNames<'w>, Vec<&'w str>),
     /// The names that are set, and all names that an operator follows.
     Known,
@@ -161,8 +161,8 @@ pub struct Options<'w> {
     pub placeholders: Placeholders<'w>,
     /// Whether hints are printed at unset variables of shell-style texts. `--optional` turns the hints off.
     pub hints_unset: bool,
-    /// Whether a default that looks like another tool's is a fault, as with `--check --strict`. Otherwise it
-    /// only causes a hint.
+    /// Whether a default that looks like another tool's default is a fault. It is a fault with `--check
+    /// --strict`, and otherwise only causes a hint.
     pub refuses_defaults: bool,
     /// The action of the run.
     pub action: Action<'w>,
@@ -223,8 +223,8 @@ impl<'w> Options<'w> {
         in_arguments && in_files && !self.environment
     }
 
-    /// Refuses an option that needs variables. It is allowed if another option sets variables, or if the
-    /// action lists names.
+    /// Refuses an option that needs variables, unless another option sets variables or the action lists
+    /// names.
     fn check_variables(&self, alloc: Global, matches: &ArgMatches<'_>) -> Result<(), Error> {
         let Some(option) = first_flag(matches, &NEEDY) else {
             return Ok(());
@@ -360,7 +360,8 @@ fn owned(alloc: Global, name: &str, value: &str) -> Result<Pair, AllocError> {
     ))
 }
 
-/// Returns the rule for the format of each source. If path endings decide, a `suffix` after them is ignored.
+/// Returns the rule for the format of each source. If the ending of a source's path decides the format, a
+/// `suffix` after the ending is ignored.
 fn format_rule_of<'w>(
     alloc: Global,
     matches: &ArgMatches<'w>,
@@ -445,7 +446,7 @@ fn placeholders_of<'w>(alloc: Global, matches: &ArgMatches<'w>) -> Result<Placeh
     }))
 }
 
-/// Returns the forms of variables that the options choose.
+/// Returns the forms that the options choose for variables.
 fn forms_of(matches: &ArgMatches<'_>) -> Forms {
     if matches.get_flag("envsubst") {
         Forms::Envsubst
@@ -483,7 +484,7 @@ fn missing_of(alloc: Global, matches: &ArgMatches<'_>, forms: Forms) -> Result<M
     })
 }
 
-/// Returns the names of `--only`.
+/// Returns the names and prefixes of `--only`.
 fn only_names<'w>(alloc: Global, matches: &ArgMatches<'w>) -> Result<Choice<'w>, Error> {
     let mut names = Vec::new(alloc);
     let mut starts = Vec::new(alloc);
@@ -497,7 +498,7 @@ fn only_names<'w>(alloc: Global, matches: &ArgMatches<'w>) -> Result<Choice<'w>,
 }
 
 /// Appends the names in `text` to `names`, and the prefixes to `starts`. A name is written `NAME`, `$NAME` or
-/// `${NAME}`, and a prefix like `APP_*`. Commas or blanks separate names and prefixes.
+/// `${NAME}`. A prefix is followed by `*`, as in `APP_*`. Commas or blanks separate names and prefixes.
 fn add_names<'w>(
     alloc: Global,
     names: &mut Vec<&'w str>,

@@ -19,7 +19,7 @@ const PERMISSIONS: u32 = 0o7777;
 /// The permission bits without the set-user-ID, set-group-ID and sticky bits.
 const COMMON_PERMISSIONS: u32 = 0o777;
 
-/// The most symbolic links that are followed to a file that doesn't exist.
+/// The maximum number of symbolic links to follow to a file that doesn't exist.
 const MOST_LINKS: usize = 40;
 
 /// The most characters that a new file's name takes from the name of the file that it replaces. Systems limit
@@ -37,8 +37,8 @@ pub(crate) fn print(rt: &HostRuntime, bytes: &[u8]) -> io::Result<()> {
     output.flush()
 }
 
-/// Returns the device and inode numbers of the regular file at a path, through symbolic links, or `None` if
-/// the file isn't regular.
+/// Returns the device and inode numbers of the file at a path, or `None` if the file isn't regular. Symbolic
+/// links are followed.
 ///
 /// # Errors
 ///
@@ -84,8 +84,9 @@ fn is_same_file(rt: &HostRuntime, one: &str, other: &str) -> bool {
     }
 }
 
-/// Replaces a file's contents by bytes, whole or not at all. A file that doesn't exist is created with this
-/// mode. If something else is at the path, such as a pipe, the bytes are written to it directly.
+/// Replaces a file's contents by bytes, whole or not at all. A file that doesn't exist is created with
+/// `mode`. If the path leads to something other than a regular file, such as a pipe, the bytes are written to
+/// it directly.
 ///
 /// # Errors
 ///
@@ -176,7 +177,7 @@ fn replace_by_new(
     outcome
 }
 
-/// Creates a file in the directory of `path`, with this mode, under a name that no file has.
+/// Creates a file with `mode` in the directory of `path`, under a name that no file has.
 fn create_beside(rt: &HostRuntime, path: Path<'_>, mode: u32) -> io::Result<(PathBuf, File)> {
     for number in 0..u32::MAX {
         let new = path_beside(rt.alloc(), path, number)?;

@@ -198,7 +198,7 @@ pub(crate) fn no_faults(alloc: Global, e: ParseError) -> Result<Vec<Fault>, Allo
     Ok(Vec::new(alloc))
 }
 
-/// Returns a fault for each of these variables whose value isn't UTF-8, in order.
+/// Returns a fault for each variable in `list` whose value isn't UTF-8, in order.
 ///
 /// # Errors
 ///
@@ -377,7 +377,8 @@ fn kind_of(operator: Option<Operator>, missing: Missing, is_optional: bool) -> V
     }
 }
 
-/// Returns whether a variable without an operator is `${NAME?}`. Its `name` is at `position` of `source`.
+/// Returns whether a variable is written `${NAME?}`. Its `name` is at `position` of `source`. The result is
+/// also true for a shell's `${NAME?message}`, which has the operator `?`.
 fn is_optional(source: &[u8], position: usize, name: &str) -> bool {
     let before = source.get(position.saturating_sub(1));
     let after = source.get(position.saturating_add(name.len()));

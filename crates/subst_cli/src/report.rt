@@ -47,7 +47,7 @@ impl Severity {
 pub(crate) struct Report<'r> {
     rt: &'r HostRuntime,
     worst: Severity,
-    /// Whether a hint has been printed.
+    /// Whether `hint` has printed a hint.
     is_hinted: bool,
     /// The names of unset variables for which a hint has been printed.
     unset: HashSet<String>,

@@ -509,8 +509,8 @@ fn is_denied(e: &io::Error) -> bool {
     )
 }
 
-/// Reports the failure to write `file`, if `outcome` is one. Also reports that no new file can replace
-/// `file`, if the kind of the error suggests that.
+/// Reports the failure to write `file`, if `outcome` is an error. Also reports, for some kinds of errors,
+/// that a new file can't replace `file`.
 fn report_write(
     rt: &HostRuntime,
     file: &str,

@@ -67,7 +67,8 @@ pub(crate) fn templates(rt: &HostRuntime, path: &str, suffix: &str) -> io::Resul
     Ok(found)
 }
 
-/// Adds the templates in the directory `inner` of `path` to `found`, and its subdirectories to `directories`.
+/// Adds the templates in a directory to `found`, and the directory's subdirectories to `directories`. The
+/// directory is `inner`, a path relative to `path`.
 fn add_directory(
     rt: &HostRuntime,
     path: &str,

@@ -48,16 +48,17 @@ fn push_printable(escaped: &mut String, c: char) -> Result<(), AllocError> {
     }
 }
 
-/// Returns whether a character is escaped by its number. This applies to control characters, line ends,
+/// Returns whether a character is escaped as its number. This applies to control characters, line ends,
 /// direction changes, and Unicode's default-ignorable characters. Other format characters of Unicode are
-/// escaped too, unless they are signs of a script.
+/// escaped too, unless they are signs of a writing system.
 fn is_hidden(c: char) -> bool {
     c.is_control()
         || is_ignorable(c)
         || matches!(c, '\u{2028}'..='\u{202e}' | '\u{fff9}'..='\u{fffb}')
 }
 
-/// Returns whether a character is default-ignorable in Unicode: invisible where it isn't supported.
+/// Returns whether a character is default-ignorable in Unicode: invisible where the character isn't
+/// supported.
 fn is_ignorable(c: char) -> bool {
     matches!(
         c,

@@ -24,8 +24,8 @@ pub(crate) fn split_mark(bytes: &[u8]) -> (&[u8], &[u8])
     (BYTE_ORDER_MARK, rest)
 }
 
-/// Splits a source into bytes to copy and bytes to fill in. Offsets of faults are relative to the latter.
-/// Only a byte order mark of JSON or YAML is copied, since the readers of these formats don't skip the mark.
+/// Splits a source into bytes to copy and bytes to expand. Offsets of faults are relative to the latter. Only
+/// a byte order mark of JSON or YAML is copied, since the readers of these formats don't skip the mark.
 pub(crate) fn split_source(form: InputFormat, source: &[u8]) -> (&[u8], &[u8])
     ensures kept { result.0.now ≡ kept_of form source.now }
     ensures filled { result.1.now ≡ filled_of form source.now }

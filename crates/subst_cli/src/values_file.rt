@@ -30,7 +30,7 @@ pub enum ValuesSource {
 struct LineFault {
     /// The message.
     pub message: &'static str,
-    /// The byte offset of the line in the file, after the line's leading blanks.
+    /// The byte offset in the file where the line's leading blanks end.
     pub start: usize,
 }
 
@@ -146,8 +146,9 @@ fn entries_or_faults(alloc: Global, bytes: &[u8]) -> Result<OrFaults<Vec<Entry>>
     }
 }
 
-/// Parses the variables of a values file, in the order of its lines. Skips blanks before a line, empty lines,
-/// and lines that begin with `#`. A value is all of its line after the first `=`, unchanged.
+/// Parses the variables of a values file, in the order of its lines. Skips the blanks at the start of each
+/// line, and lines that are then empty or begin with `#`. A value is all of its line after the first `=`,
+/// unchanged.
 fn entries(alloc: Global, text: &[u8]) -> Result<Lines, AllocError>
     ensures { IfOk result (λ lines. MatchResult lines
         (λ entries. values_of text.now ≡ Some (entries_of entries.items))

@@ -12,7 +12,7 @@ is_other (Kept n) = false
 is_other (Text x) = true
 is_other (Inside' shape all) = true
 
--- a change for one value alone: `Kept n`, which keeps n more values, becomes `Kept 0`
+-- a change for its first value alone: `Kept n`, which is for one value and n more after it, becomes `Kept 0`
 abbrev pub one : Change → Change
 one (Kept n) = Kept 0
 one (Text x) = Text x
@@ -47,7 +47,7 @@ inside (Kept n) = []
 inside (Text x) = []
 inside (Inside' shape all) = inside_step (out-Change (Inside' shape all))
 
--- The next of these changes, and those after it. If none is left, the value is kept.
+-- the next change of a list, or `Kept 0` if none is left; `rest_of` has the changes after it
 abbrev pub next_of : List Change → Change
 next_of [] = Kept 0
 next_of (change ∷ changes) = change
@@ -56,15 +56,15 @@ abbrev pub rest_of : List Change → List Change
 rest_of [] = []
 rest_of (change ∷ changes) = changes
 
--- These changes, made in order, turn the first list of values into the second. `Made` relates a value, its
--- change and the value after the change.
+-- The changes of a list, made in order, turn the first list of values into the second. `Made` relates a
+-- value, its change and the value after the change.
 abbrev pub AreMade : {T : Type 0} → (T → Change → T → Type 0) → List T → List Change → List T → Type 0
 AreMade Made [] changes [] = ⊤
 AreMade Made (v ∷ vs) changes (w ∷ ws) =
     Made v (next_of changes) w × AreMade Made vs (rest_of changes) ws
 AreMade Made _ changes _ = ⊥
 
--- `all` is `changes`, and then any number of `Kept`
+-- `all` is `changes` followed by any number of `Kept 0`
 abbrev pub IsUpToKept : List Change → List Change → Type 0
 IsUpToKept changes all = (n : ℕ) × (all ≡ changes ++ replicate n (Kept 0))
 

@@ -14,9 +14,8 @@ use Rattle.subst_document.specs.declared.edits.StringAt.{StringAt}
 abbrev pub IsChanged : (List ℕ → List ℕ → Type 0) → List ℕ → Option (List ℕ) → Type 0
 IsChanged Becomes x changed = MatchOption changed (Becomes x x) (λ value. Becomes x value × ¬ (value ≡ x))
 
--- `source` and `output` begin with the same bytes. Then `source` has `token`, a token of the string x, and
--- `output` has `new`, a token of `value`. After these tokens the texts go on with `rest` and `filled_rest`,
--- which may differ.
+-- One edit: where `source` has a token of the string x, `output` has a token of `value`. Both texts begin
+-- with the bytes `before`. After the tokens they go on with `rest` and `filled_rest`, which may differ.
 pub record Edit (IsToken : List ℕ → List ℕ → Type 0) (IsPart : List ℕ → List ℕ → List ℕ → Type 0)
     (Fits : List ℕ → List ℕ → Type 0) (Becomes : List ℕ → List ℕ → Type 0)
     (x value source output : List ℕ) : Type 0 where
@@ -31,8 +30,8 @@ pub record Edit (IsToken : List ℕ → List ℕ → Type 0) (IsPart : List ℕ 
   pub source_is : source ≡ before ++ (token ++ rest)
   pub output_is : output ≡ before ++ (new ++ filled_rest)
 
--- `output` is `source` with these strings filled in, in order. If a string changes, its token is replaced by
--- a token of its value, as `IsRespelled` states. All other bytes are the same.
+-- `output` is `source` with the strings of a list replaced by their values, in order. If a string changes,
+-- its token is replaced by a token of its value, as `IsRespelled` states. All other bytes are the same.
 abbrev pub IsFilledText : (List ℕ → List ℕ → Type 0) → (List ℕ → List ℕ → List ℕ → Type 0)
     → (List ℕ → List ℕ → Type 0) → (List ℕ → List ℕ → Type 0)
     → List (List ℕ) → (source : List ℕ) → (output : List ℕ) → Type 0
@@ -43,8 +42,8 @@ IsFilledText IsToken IsPart Fits Becomes (x ∷ strings) source output =
     × (edit : Edit IsToken IsPart Fits Becomes x value source output)
     × IsFilledText IsToken IsPart Fits Becomes strings edit.rest edit.filled_rest)
 
--- `new` is `old` and then the part of `text` before `rest`, with these strings filled in. This holds for all
--- strings that may follow in `rest`, and all their outputs.
+-- `new` is `old` followed by `appended`: the part of `text` before `rest`, with `strings` replaced by their
+-- values. `appended` followed by any output of `rest` is an output of `text`.
 abbrev pub IsFilledUpTo : (List ℕ → List ℕ → Type 0) → (List ℕ → List ℕ → List ℕ → Type 0)
     → (List ℕ → List ℕ → Type 0) → (List ℕ → List ℕ → Type 0)
     → List (List ℕ) → (text : List ℕ) → (rest : List ℕ) → (old : List ℕ) → (new : List ℕ) → Type 0
@@ -54,7 +53,8 @@ IsFilledUpTo IsToken IsPart Fits Becomes strings text rest old new =
     → IsFilledText IsToken IsPart Fits Becomes (strings ++ more) text (appended ++ filled))
 
 -- The outcome for x, the next string of `text`. If x is unchanged, `new` is `old`. If x changes, `new` is
--- `old` and then the part of `text` before `rest`, filled in. `NotFound` states only that x changes.
+-- `old` followed by the part of `text` before `rest`, with x replaced by its value. `NotFound` states only
+-- that x changes.
 abbrev pub IsStringOutcome : (List ℕ → List ℕ → Type 0) → (List ℕ → List ℕ → List ℕ → Type 0)
     → (List ℕ → List ℕ → Type 0) → (List ℕ → List ℕ → Type 0) → List ℕ
     → (text : List ℕ) → (old : List ℕ) → (new : List ℕ) → StringOutcome → Type 0
@@ -77,8 +77,9 @@ AreSpelled IsToken source start (it ∷ rest) =
 abbrev pub text_at : StringAt → List ℕ
 text_at it = string_bytes it.text
 
--- `new` is `old` and then an item for each of these strings. The strings are spelled at their spans in
--- `source`, between the positions `from` and `next`. This holds for all items that may follow after `next`.
+-- `new` is `old` followed by an item for each of `strings`. The spans of the items spell the strings in
+-- `source`, in order, between the positions `from` and `next`. Any items that are spelled from `next` on may
+-- follow.
 abbrev pub AreListed : (List ℕ → List ℕ → Type 0) → (source : List ℕ) → ℕ → ℕ → List (List ℕ)
     → (old : List StringAt) → (new : List StringAt) → Type 0
 AreListed IsToken source from next strings old new =

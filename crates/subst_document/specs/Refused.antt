@@ -22,8 +22,9 @@ refusal_at steps it = record {
 abbrev pub HasRangeInText : Refusal → Type 0
 HasRangeInText it = IsRangeIn it.text (range_of it.fault)
 
--- `refusal` is the refusal of the string `it`. It has the string's text and span, and a path to the string at
--- `index`. The string is refused for the refusal's fault, and the range of the fault is in the string.
+-- `refusal` is the refusal of the string `it`, which has the index `index`. The refusal has the string's text
+-- and span, and a path to the string, by `LeadsTo`. The string is refused for the refusal's fault, and the
+-- range of the fault is in the string.
 pub record IsRefusalOf {P : Type 0} (ask : List ℕ → Answer → Type 0) (LeadsTo : ℕ → P → Type 0) (index : ℕ)
     (it : StringAt) (refusal : RefusalAt P) : Type 0 where
   pub path : LeadsTo index refusal.path

@@ -26,7 +26,8 @@ abbrev pub lines_of : List ℕ → List ℕ → Option (Range ℕ) → List ℕ 
 lines_of file s None message = file ++ codes ": " ++ message ++ codes "\n"
 lines_of file s (Some place) message = lines_at file s place message
 
--- the message for a refused string: its path, unless empty, and `shown`, the text of its fault
+-- the message for a refused string: `path: shown`, or only `shown` if the path is empty; `shown` is the text
+-- of the string's fault
 abbrev pub with_path : List ℕ → List ℕ → List ℕ
 with_path [] shown = shown
 with_path (b ∷ path) shown = (b ∷ path) ++ codes ": " ++ shown

@@ -1,4 +1,4 @@
--- Tokens of strings that change, in which only placeholders are rewritten.
+-- New tokens of changed strings, with only the placeholders rewritten.
 use Rattle.std.specs.Prelude.{◌≡◌, ◌⊎◌, ℕ, ◌==◌, not, List, [], ◌∷◌, ◌++◌, filter}
 use Rattle.std.specs.List.{flat_map, AllByRecursion}
 use Rattle.subst_language.specs.Language.Balanced.{IsBalanced}
@@ -10,7 +10,8 @@ abbrev pub bare : List ℕ → List ℕ
 bare = filter (λ b. not (b == backslash))
 
 -- One placeholder or escape as written: a backslash with one byte, two dollars, a dollar with a name, or a
--- dollar with matching braces. Inside `braces`, but not `bare_braces`, a backslash escapes a brace.
+-- dollar with matching braces. In the case `braces`, a backslash escapes a brace; in the case `bare_braces`,
+-- it doesn't.
 pub data IsPlaceholder : List ℕ → Type 0 where
   escape : (b : ℕ) → IsPlaceholder (backslash ∷ b ∷ [])
   dollars : IsPlaceholder (dollar ∷ dollar ∷ [])
@@ -25,8 +26,8 @@ pub record Piece : Type 0 where
   pub before : List ℕ
   pub after : List ℕ
 
--- The token spells the piece with the piece's own bytes, or with bytes that are read as the piece, by
--- `IsPart`. Unless the piece is a placeholder, the new token has the same bytes.
+-- `before` is the piece's `text`, or is read as this text, as `IsPart` states. Unless the piece is a
+-- placeholder, `after` equals `before`.
 pub record IsPiece (IsPart : List ℕ → List ℕ → Type 0) (piece : Piece) : Type 0 where
   pub spells : (piece.before ≡ piece.text) ⊎ IsPart piece.before piece.text
   pub stays : (piece.after ≡ piece.before) ⊎ IsPlaceholder piece.text
@@ -42,8 +43,8 @@ befores = flat_map (λ piece. piece.before)
 abbrev pub afters : List Piece → List ℕ
 afters = flat_map (λ piece. piece.after)
 
--- `new` is `token`, a token of the string `text`, with only placeholders rewritten. All other bytes stay, and
--- so do the quotes.
+-- `new` differs from `token`, a token of the string `text`, only in the spelling of placeholders. All other
+-- bytes stay, and so do the quotes.
 pub record IsSpliced (IsPart : List ℕ → List ℕ → Type 0) (text token new : List ℕ) : Type 0 where
   pub opening : List ℕ
   pub closing : List ℕ
@@ -53,7 +54,7 @@ pub record IsSpliced (IsPart : List ℕ → List ℕ → Type 0) (text token new
   pub token_is : token ≡ opening ++ (befores pieces ++ closing)
   pub new_is : new ≡ opening ++ (afters pieces ++ closing)
 
--- `text` is made of pieces that the bytes `before` spell. `new` is `old` and the new bytes of these pieces.
+-- The bytes `before` spell `text`, piece by piece. `new` is `old` and then the new spellings of these pieces.
 pub record AppendsPieces (IsPart : List ℕ → List ℕ → Type 0) (text before old new : List ℕ) : Type 0 where
   pub pieces : List Piece
   pub each : AllByRecursion (IsPiece IsPart) pieces
@@ -75,7 +76,7 @@ pub record Part : Type 0 where
   pub text : List ℕ
   pub output : List ℕ
 
--- `text` up to `rest` is made of parts, and `new` is `old` and the outputs of these parts.
+-- `text` up to `rest` is made of parts. `new` is `old` and then the outputs of these parts.
 pub record AreParts (Becomes : List ℕ → List ℕ → Type 0) (text rest old new : List ℕ) : Type 0 where
   pub parts : List Part
   pub each : AllByRecursion (λ part. Becomes part.text part.output) parts
@@ -88,14 +89,15 @@ IsMoreThanParts Becomes text value =
     (parts : List Part) × AllByRecursion (λ part. Becomes part.text part.output) parts
     × (text ≡ flat_map (λ part. part.text) parts) × ¬ (value ≡ flat_map (λ part. part.output) parts)
 
--- the value of a placeholder of the string doesn't fit into the kind of the string's token
+-- the string `text` has a placeholder with a value that the kind of the string's token can't spell
 abbrev pub DoesntFit : (Fits : List ℕ → Type 0) → (Becomes : List ℕ → List ℕ → Type 0) → (text : List ℕ) → Type 0
 DoesntFit Fits Becomes text =
     (before placeholder after value : List ℕ) × (text ≡ before ++ (placeholder ++ after))
     × IsPlaceholder placeholder × Becomes placeholder value × ¬ (Fits value)
 
--- `new` replaces `token`, a token of `text`. Only placeholders are rewritten, unless a placeholder's value
--- doesn't fit into the kind of `token`, or `value` isn't the outputs of the string's parts.
+-- `new` replaces `token`, a token of the string `text`. Only placeholders are rewritten, unless the kind of
+-- `token` can't spell some placeholder's value, or `value` isn't the concatenation of the outputs of `text`'s
+-- parts.
 abbrev pub IsRespelled : (IsPart : List ℕ → List ℕ → List ℕ → Type 0) → (Fits : List ℕ → List ℕ → Type 0)
     → (Becomes : List ℕ → List ℕ → Type 0) → (text value token new : List ℕ) → Type 0
 IsRespelled IsPart Fits Becomes text value token new =

@@ -6,7 +6,7 @@ use Rattle.subst_document.specs.declared.strings.ValueAt.{ValueAt}
 abbrev pub BecomesOther : (List ℕ → List ℕ → Type 0) → List ℕ → Type 0
 BecomesOther Becomes x = (value : List ℕ) × Becomes x value × ¬ (value ≡ x)
 
--- some of these strings changes
+-- at least one of these strings changes
 abbrev pub SomeChanges : (List ℕ → List ℕ → Type 0) → List (List ℕ) → Type 0
 SomeChanges Becomes [] = ⊥
 SomeChanges Becomes (x ∷ strings) = BecomesOther Becomes x ⊎ SomeChanges Becomes strings
@@ -16,7 +16,8 @@ abbrev pub AllStay : (List ℕ → List ℕ → Type 0) → List (List ℕ) → 
 AllStay Becomes [] = ⊤
 AllStay Becomes (x ∷ strings) = Becomes x x × AllStay Becomes strings
 
--- `true` states that some of these strings changes, and `false` that none does and the output is the source
+-- `true` states that at least one of these strings changes; `false` states that all are unchanged and the
+-- output is the source
 abbrev pub StatesChange : (List ℕ → List ℕ → Type 0) → List (List ℕ) → (source : List ℕ) → (output : List ℕ)
     → Bool → Type 0
 StatesChange Becomes strings source output true = SomeChanges Becomes strings

@@ -1,5 +1,5 @@
-//! Changes of the values in a tree. A walk over the borrowed tree finds them, and a second walk makes them.
-//! So only changes take memory, and all is allocated before anything changes.
+//! Changes of the values in a tree. A walk over the borrowed tree finds the changes, and a second walk makes
+//! them. So only changes take memory, and all of it is allocated before anything changes.
 
 ghost use Rattle.std.specs.Prelude.{◌≡◌, ◌<◌, ◌+◌, ◌^◌, ◌++◌, ◌∷◌, ◌||◌, [], false, IfOk, IsTrue, OnOk, length};
 ghost use Rattle.subst_error.specs.ErrorFault.{error_fault};

@@ -20,7 +20,7 @@ use subst_error::Error;
 pub struct StringAt {
     /// The string as it is read: decoded, without quotes.
     pub text: String,
-    /// The byte range that spells the string in the text, with the quotes.
+    /// The byte range of the string's token in the document, with the quotes.
     pub span: Range<usize>,
 }
 
@@ -31,7 +31,7 @@ pub struct RefusalAt<P> {
     pub path: P,
     /// The string as it is read: decoded, without quotes.
     pub text: String,
-    /// The byte range that spells the string in the text, with the quotes.
+    /// The byte range of the string's token in the document, with the quotes.
     pub span: Range<usize>,
     /// The error of the string, never `OutOfMemory`. Positions are byte offsets in the string.
     pub error: Error,

@@ -33,7 +33,8 @@ pub(crate) fn placeholders(
     Ok(found.spans)
 }
 
-/// Returns the span of a text's only placeholder or escape, or `None` if it has none or more than one.
+/// Returns the span of a text's only placeholder or escape. Returns `None` if there is none, or if a `$` or
+/// `\` is outside the span.
 pub(crate) fn only_placeholder(text: &str) -> Option<Range<usize>> {
     let bytes = text.as_bytes();
     let start = bytes.iter().position(|byte| matches!(byte, b'$' | b'\\'))?;
@@ -173,7 +174,7 @@ fn escape_len(text: &[u8]) -> Option<usize>
 }
 
 /// Returns the length of the `$`, name or `{..}` that `text` begins with, or `None` if it begins with none.
-/// `text` follows another `$`.
+/// `text` follows a `$`.
 fn variable_len(text: &[u8]) -> Option<usize>
     ensures within { IfSome result (λ len. len ≤ length text.now) }
     ensures placeholder { IfSome result (λ len. IsPlaceholder (dollar ∷ take len text.now)) }

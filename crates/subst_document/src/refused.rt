@@ -77,7 +77,8 @@ fn refused<F: Fill>(
     Ok(all)
 }
 
-/// Returns the refusal of the string `it`, with the path `index`, or `None` if the string isn't refused.
+/// Returns the refusal of the string `it`, or `None` if the string isn't refused. The `path` of the refusal
+/// is `index`.
 fn refusal_of<F: Fill>(
     alloc: Global,
     index: usize,
@@ -99,7 +100,8 @@ fn refusal_of<F: Fill>(
     }))
 }
 
-/// Replaces the index of each refusal by its path, in order. Returns `None` if there are too few paths.
+/// Replaces the `path` of each refusal, which is an index, by the next path of `paths`. Returns `None` if
+/// there are too few paths.
 fn with_paths<P: Drop>(
     alloc: Global,
     refused: Vec<RefusalAt<usize>>,

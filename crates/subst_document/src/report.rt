@@ -40,7 +40,8 @@ pub trait ReportFormat {
             (λ text. reports file.now source.now it.now (string_bytes text)) };
 }
 
-/// Returns the reports of `all` refused strings, or the report of `e` if `all` is empty or `None`.
+/// Returns the reports of the refused strings `all`, concatenated. If `all` is empty or `None`, returns the
+/// report of `e`, without a line and column.
 ///
 /// # Errors
 ///
@@ -126,8 +127,8 @@ fn text_of(alloc: Global, e: &Error) -> Result<String, AllocError>
     }
 }
 
-/// Returns `message` after the name `file`. `place` is a byte range of `source`, or `None`. If there is a
-/// place, its line and column precede the message, and the underlined line follows.
+/// Returns `file: message`. `place` is a byte range of `source`, or `None`. If there is a place, its line and
+/// column precede the message, and the underlined line follows.
 ///
 /// # Errors
 ///

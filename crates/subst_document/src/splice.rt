@@ -1,5 +1,5 @@
-//! New tokens of strings that change. If the kind of the old token, such as its quotes, can spell the new
-//! values, only placeholders are rewritten, and the rest stays.
+//! New tokens of strings that change. If possible, the kind of the old token, such as its quotes, is kept,
+//! and only placeholders are rewritten.
 
 ghost use Rattle.std.specs.Prelude.{◌≡◌, ◌⊎◌, ◌++◌, ℕ, List, IfOk, IfSome, IsTrue, string_bytes};
 ghost use Rattle.subst_language.specs.Language.Several.{GivesBy};
@@ -18,7 +18,7 @@ use subst_error::Error;
 pub(crate) struct ChangedString<'s> {
     /// The token of the string.
     pub token: &'s str,
-    /// The string as it is read.
+    /// The string as it is read: decoded, without quotes.
     pub text: &'s str,
     /// The new value of the string.
     pub value: &'s str,
@@ -35,12 +35,12 @@ pub struct Content {
     pub spans: Option<Vec<Range<usize>>>,
 }
 
-/// A part of a string's new value, for a token of another kind.
+/// A part of a string's new value. `StringFormat::write` makes a new token from such parts.
 #[derive(Clone, Copy)]
 pub enum Part<'s> {
     /// Text of the string itself.
     Own(&'s str),
-    /// The value of a placeholder.
+    /// The value of a placeholder, or the new value of the whole string.
     Value(&'s str),
 }
 
@@ -56,8 +56,8 @@ enum Values {
 }
 
 /// Returns a new token for a string that changes, or `None` if no token is found that is read as the new
-/// value. Placeholders are looked for with backslashes as escapes, and then without, as in other tools'
-/// texts.
+/// value. Placeholders are first looked for with backslashes as escapes. If their values aren't found,
+/// backslashes are plain bytes, as in other tools' texts.
 ///
 /// # Errors
 ///
@@ -94,9 +94,9 @@ pub(crate) fn new_token<S: StringFormat, F: Fill>(
     }
 }
 
-/// Returns a new token, as [`new_token`] does. If the values fit the kind of the old token, only the
-/// placeholders at `spans` are rewritten. `values` are the spans of the placeholders' values in the string's
-/// new value.
+/// Returns a new token, as [`new_token`] does. If the placeholders' values fit the kind of the old token,
+/// only the placeholders at `spans` are rewritten. `values` are the spans of these values in the string's new
+/// value.
 ///
 /// # Errors
 ///
@@ -159,8 +159,8 @@ fn values_of<F: Fill>(
     values_of_each(alloc, change, spans, filler)
 }
 
-/// Returns the span of the only placeholder's value in the string's new value. `span` is the placeholder's
-/// span in the string. Returns `None` if the text around the placeholder changes.
+/// Finds the value of a string's only placeholder, as a span of the string's new value. `span` is the
+/// placeholder's span in the string. Returns `None` if the text around the placeholder changes.
 fn between(change: ChangedString<'_>, span: &Range<usize>) -> Option<Range<usize>> {
     let after = change.text.get(span.end..)?;
     let value = change.value.strip_prefix(change.text.get(..span.start)?)?;
@@ -437,7 +437,8 @@ fn append_piece<S: StringFormat>(
     Ok(is_written)
 }
 
-/// Appends `value`, spelled in the kind of the token `whole`. Returns `false` if the kind can't spell it.
+/// Appends `value`, spelled in the kind of the token `whole`. If `value.begins_line`, a line end is appended
+/// first. Returns `false` if the kind can't spell the value, or if the format can't write the line end.
 ///
 /// # Errors
 ///
@@ -526,7 +527,8 @@ fn is_misfit<S: StringFormat, F: Fill>(
     Ok(is_placeholder(cut.token) && !format.fits(change.token, value.as_str()))
 }
 
-/// Returns the parts of a string's new value: its own text, and the values of the placeholders at `spans`.
+/// Returns the parts of a string's new value: the string's own text, and the values of the placeholders at
+/// `spans`.
 ///
 /// # Errors
 ///
@@ -550,7 +552,7 @@ fn parts_of<'s>(
     Ok(parts)
 }
 
-/// Returns a new token that keeps nothing of the old one, or `None` if it isn't read as the new value.
+/// Returns a new token, written from the whole new value, or `None` if the token isn't read as that value.
 ///
 /// # Errors
 ///

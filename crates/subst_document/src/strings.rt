@@ -13,14 +13,14 @@ use crate::edits::{StringAt, StringFormat, StringOutcome, fill_in_string, slice,
 use std::alloc::{AllocError, Global};
 use subst_error::Error;
 
-/// A string of a text, with its span.
+/// A string of a document, with its span.
 #[derive(Clone, Copy)]
 pub struct Spelled<'t> {
     /// The string as it is read: decoded, without quotes.
     pub text: &'t str,
-    /// The byte offset in the text at which the string's opening quotes begin.
+    /// The byte offset in the document at which the string's opening quotes begin.
     pub start: usize,
-    /// The byte offset in the text at which the string's closing quotes end.
+    /// The byte offset in the document at which the string's closing quotes end.
     pub end: usize,
 }
 

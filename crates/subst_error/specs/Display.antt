@@ -1,4 +1,4 @@
--- The texts that characters and errors display as.
+-- The displayed texts of characters and errors.
 use Rattle.std.specs.Prelude.{◌≡◌, ◌⊎◌, MatchBool, ℕ, ◌/◌, ◌%◌, ◌==◌, ◌||◌, true, false, if◌then◌else◌, nat_lt, List, [], ◌∷◌, ◌++◌, Option, Some, None, codes, encode_utf8}
 use Rattle.std.specs.Fmt.{digits, digit_glyph, ◌++?◌}
 use Rattle.subst_error.specs.Fault.{Fault, InvalidEscapeSequence, MissingVariableName, UnexpectedCharacter, MissingClosingBrace, NoSuchVariable}
@@ -34,7 +34,7 @@ ascii_escape c =
 abbrev pub in_quotes : List ℕ → List ℕ
 in_quotes shown = codes "'" ++ (shown ++ codes "'")
 
--- an ASCII character in single quotes, or `None` for another character, which may be escaped or not
+-- an ASCII character in single quotes, or `None` for any other character, since it may be escaped or not
 abbrev pub quoted_char : ℕ → Option (List ℕ)
 quoted_char c = if nat_lt c 0x80 then Some (in_quotes (ascii_escape c)) else None
 

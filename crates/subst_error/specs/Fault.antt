@@ -1,4 +1,4 @@
--- The faults of a source or of its expansion, as errors state them, with texts as lists of bytes.
+-- The faults of a source or of its expansion, as errors state them. A fault's texts are lists of bytes.
 use Rattle.std.specs.Prelude.{ℕ, List, Option}
 use Rattle.subst_error.specs.declared.CharOrByte.{CharOrByte}
 

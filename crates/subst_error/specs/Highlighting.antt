@@ -21,7 +21,7 @@ abbrev pub underlined : List ℕ → ℕ → ℕ → List ℕ
 underlined line spaces carets =
     codes "  " ++ line ++ codes "\n  " ++ repeat spaces (codes " ") ++ repeat carets (codes "^") ++ codes "\n"
 
--- The line of the text s in which the range begins, and carets below the range, up to the end of the line.
+-- The line of the text s in which the range begins, with carets below the part of the range in that line.
 -- Empty if the line is wider than `widest`.
 abbrev pub highlighting_at : Range ℕ → List ℕ → List ℕ
 highlighting_at range s =

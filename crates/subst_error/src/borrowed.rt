@@ -82,7 +82,7 @@ pub enum SubstituteIntoError<'s> {
 }
 
 impl<'s> SubstituteIntoError<'s> {
-    /// Converts into an [`Error`], which owns the variable's name, or is `OutOfMemory` if allocation fails.
+    /// Converts into an [`Error`] that owns the variable's name, or into `OutOfMemory` if allocation fails.
     /// Allocates only if the error names a variable.
     ///
     /// The result has [`Error::source_line`], [`Error::source_position`] and [`Error::source_highlighting`].

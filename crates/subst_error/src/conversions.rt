@@ -1,4 +1,5 @@
-//! Conversions between errors. Each keeps the stated fault, and `OutOfMemory` stays `OutOfMemory`.
+//! Conversions between errors. Each keeps the fault that the error states, and `OutOfMemory` stays
+//! `OutOfMemory`.
 
 ghost use Rattle.std.specs.Prelude.{◌≡◌, None};
 ghost use Rattle.subst_error.specs.ErrorFault.{error_fault, expand_fault, parse_fault};

@@ -91,7 +91,8 @@ impl Error {
         }
     }
 
-    /// Returns the error's line, underlined, or `None` for `OutOfMemory` or a line wider than 60 columns.
+    /// Returns the error's line, with the error's range underlined. `None` for `OutOfMemory`, or if the line
+    /// is wider than 60 columns.
     fn underlined<'a>(&self, source: &'a str) -> Option<Underlined<'a>>
         requires { IsRangeIn source.now (range_of (error_fault self.now)) }
         ensures { MatchOption result (highlighting_of (error_fault self.now) source.now ≡ [])
@@ -125,7 +126,8 @@ pub fn underline(alloc: Global, source: &str, range: Range<usize>) -> Result<Str
     }
 }
 
-/// Returns the line in which `range` begins, underlined, or `None` if the line is wider than 60 columns.
+/// Returns the line in which `range` begins, with the range underlined. `None` if the line is wider than 60
+/// columns.
 fn underlined_line(source: &str, range: Range<usize>) -> Option<Underlined<'_>>
     requires { IsRangeIn source.now range }
     ensures { MatchOption result (highlighting_at range source.now ≡ [])

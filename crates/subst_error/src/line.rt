@@ -23,20 +23,18 @@ impl Error {
     }
 }
 
-/// The line in which a range of a source begins, with the line's text before the range and its text in the
-/// range.
+/// The line in which a range of a source begins, and the parts of that line before and in the range.
 #[derive(Clone, Copy)]
 pub(crate) struct MarkedLine<'a> {
     /// The whole line, without its line end.
     pub(crate) text: &'a str,
-    /// The text of the line before the range.
+    /// The part of the line that precedes the range.
     pub(crate) before: &'a str,
     /// The text of the range, cut at the end of the line.
     pub(crate) marked: &'a str,
 }
 
-/// Returns the line of `source` in which `range` begins, with the line's text before the range and its text
-/// in the range.
+/// Returns the line of `source` in which `range` begins, and the parts of that line before and in the range.
 pub(crate) fn marked_line(source: &str, range: Range<usize>) -> MarkedLine<'_>
     requires { IsRangeIn source.now range }
     ensures text { result.text.now ≡ line_around range.start source.now }

@@ -68,8 +68,8 @@ impl fmt::Display for QuotedPrintable {
 
 /// Writes a character in single quotes, as `{:?}` does.
 ///
-/// The contract of `{:?}` covers ASCII alone. So any other character is written without it: unchanged or as
-/// its code point.
+/// The contract of `{:?}` covers ASCII alone. So any other character is written without `{:?}`: as its code
+/// point if `escape_debug` escapes it, otherwise unchanged.
 #[tactic(auto, using(crate::proofs::QuotedLemmas::debug_is_quoted))]
 fn write_quoted<W: fmt::Write>(c: char, f: &mut fmt::Formatter<W>) -> fmt::Result
     ensures styled { DisplaysStyledOnOk W.write_str_gives f.old result (quoted_char c) f.new }

@@ -17,9 +17,10 @@ use Rattle.subst_expand.specs.declared.expand.Stop.TheVariants as stop
 use Rattle.subst_language.specs.declared.part.Part.{Part}
 use Rattle.subst_language.specs.declared.part.Part.TheVariants.{Default}
 
--- The ghost members of the reader, the map and the output of an expansion. The reader's `read` is the bytes
--- of a value, and its `is_read` a property of them. The map's `see` and `look_up` define the look-up. The
--- output's `holds` relates an output, its first state and its bytes; `len` and `capacity` are in bytes.
+-- The ghost members of the reader, the map and the output of an expansion. The reader's `read` maps a value
+-- to its bytes, and its `is_read` holds of all bytes that are read. The map's `see` and `look_up` define,
+-- with `read`, the look-up from names to bytes. The output's `holds` relates an output, its first state and
+-- its bytes. Its `len` and `capacity` are in bytes.
 pub record Context (V Seen W First : Type 0) : Type 1 where
   pub read : V → List ℕ
   pub is_read : List ℕ → Type 0
@@ -74,7 +75,7 @@ pub record Stops {V Seen W First : Type 0} (context : Context V Seen W First) (s
   pub at : StopsAt context s stopped steps before
   pub capacity : context.capacity before ≤ context.capacity after
 
--- the part of the source s was written to an output, whose states are `before` and `after`
+-- the value of the part was written to an output, whose states are `before` and `after`; s is the source
 abbrev pub WritesPart : {V Seen W First : Type 0} → Context V Seen W First → List ℕ → Part → W → W → Type 0
 WritesPart context s part before after = Writes context (part_steps part s) before after
 

@@ -32,8 +32,8 @@ pub record IsExpansion {V Seen : Type 0} (read : V → List ℕ) (is_read : List
   pub template : IsTemplateOf s parts
   pub expands : ExpandsParts read is_read see look_up s parts before after capacity len outcome
 
--- The output of a template of the source s was appended to `before`. The appended bytes are the template's
--- output when each value is a single mark, with some marks replaced by bytes of which `is_read` holds.
+-- The output of a template of the source s was appended to `before`. That output is stated with marks: first
+-- each value is a single mark, and then some marks are replaced by bytes of which `is_read` holds.
 abbrev pub AppendsTemplate : {Seen : Type 0} → (List ℕ → Type 0) → (List ℕ → Option Seen)
     → (s before after : List ℕ) → Type 0
 AppendsTemplate is_read look_up s before after = (parts : List Part) × IsTemplateOf s parts

@@ -1,4 +1,5 @@
--- The expansion's own terms: packed parts, and their output. No contract of a public function cites them.
+-- The expansion's own terms: packed parts, and their output. No contract of a public function of `subst`
+-- cites them.
 pub mod Context
 pub mod CountedParts
 pub mod Expansion

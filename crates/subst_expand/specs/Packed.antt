@@ -1,4 +1,4 @@
--- Packed parts as parts.
+-- The parts that packed parts unpack to.
 use Rattle.std.specs.Prelude.{ℕ, List, map}
 use Rattle.subst_language.specs.declared.part.Part.{Part}
 use Rattle.subst_language.specs.declared.part.Part.TheVariants.{Literal, Escaped, Variable, Default}
@@ -17,6 +17,6 @@ unpacked value (packed.Default start end next) =
 abbrev pub unpacked_parts : {O : Type 0} → (O → ℕ) → List (PackedPart O) → List Part
 unpacked_parts value parts = map (unpacked value) parts
 
--- the conversion of an offset or index that is a number already, as a `u32` or a `usize` is
+-- the conversion of an offset or index of type `u32` or `usize`, which contracts see as a number already
 abbrev pub same_number : ℕ → ℕ
 same_number n = n

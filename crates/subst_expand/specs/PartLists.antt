@@ -1,4 +1,4 @@
--- The parts of lists that are borrowed, owned, or either.
+-- The parts of a borrowed list, of an owned list, and of a list that is borrowed or owned.
 use Rattle.std.specs.Prelude.{List}
 use Rattle.subst_expand.specs.Packed.{unpacked_parts, same_number}
 use Rattle.subst_language.specs.declared.part.Part.{Part}

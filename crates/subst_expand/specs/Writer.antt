@@ -12,8 +12,8 @@ pub record AtFirst (Seen W : Type 0) : Type 0 where
   pub look_up : List ℕ → Option Seen
   pub output : W
 
--- A writer has taken the parts, and has written them to its output `now` as its state requires. Its source s
--- and its map's look-up are those of `first`, and `len` is the number of the parts.
+-- A writer has taken the parts, and has written them as far as its state requires. Its output is `now`. Its
+-- source s and its map's look-up are those of `first`, and `len` is the number of the parts.
 pub record HoldsParts {V Seen W First : Type 0} (context : Context V Seen W First) (s : List ℕ) (len : ℕ)
     (state : State) (now : W) (first : AtFirst Seen W) (parts : List Part) : Type 0 where
   pub source : s ≡ first.source

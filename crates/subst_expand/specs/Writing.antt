@@ -27,7 +27,8 @@ abbrev pub WritesVisited : {V Seen W First : Type 0} → Context V Seen W First 
 WritesVisited context s visited before after =
     Writes context (λ look. steps_in (visited look) s look) before after
 
--- the parts of the source s were written to an output, whose states are `before` and `after`
+-- all visited parts of a list were written to an output, whose states are `before` and `after`; s is the
+-- list's source
 abbrev pub WritesParts : {V Seen W First : Type 0} → Context V Seen W First → List ℕ → List Part → W → W
     → Type 0
 WritesParts context s parts before after =
@@ -39,9 +40,9 @@ abbrev pub StopsInParts : {V Seen W First : Type 0} → Context V Seen W First �
 StopsInParts context s stopped parts before after =
     Stops context s stopped (parts_steps parts s) before after
 
--- The outcome of writing the parts of the source s: all were written, or writing stopped within them. If all
--- were written, one turn was added for each visited part. If writing stopped, at most as many turns were
--- added.
+-- The outcome of writing the parts of the source s: all visited parts were written, or writing stopped within
+-- the parts. If all were written, the number of added turns is the number of visited parts. If writing
+-- stopped, it is at most that number.
 pub record AppendsParts {V Seen W First : Type 0} (context : Context V Seen W First) (s : List ℕ)
     (parts : List Part) (result : Result (Unit {0}) Stop) (before after : W) (turns_before turns_after : ℕ)
     : Type 0 where
@@ -53,7 +54,8 @@ pub record AppendsParts {V Seen W First : Type 0} (context : Context V Seen W Fi
       turns_after ≤ turns_before + length (visited_parts parts 0 0 s look))
   pub grown : turns_before ≤ turns_after
 
--- all parts were written to an output with the states `first` and `now`, and every skipped default is closed
+-- all visited parts were written to an output with the states `first` and `now`, and every skipped default is
+-- closed
 pub record IsWriting {V Seen W First : Type 0} (context : Context V Seen W First) (s : List ℕ) (first now : W)
     (parts : List Part) : Type 0 where
   pub settled : AllHaveJumps context.look_up s (length parts) parts
@@ -85,8 +87,9 @@ pub record HasStopped {V Seen W First : Type 0} (context : Context V Seen W Firs
   pub written : WritesParts context s done first before
   pub stops : StopsAtPart context s part stopped before now
 
--- the parts that a writer has taken were written as its state requires: all parts, the parts up to a skipped
--- default, or the parts before the one at which writing stopped
+-- the parts that a writer has taken were written as far as its state requires. `Writing`: all visited parts.
+-- `Jumping`: the visited parts up to an open default, whose own parts are skipped. `Stopped`: the visited
+-- parts before the one at which writing stopped
 abbrev pub HasWritten : {V Seen W First : Type 0} → Context V Seen W First → List ℕ → State → W → W
     → List Part → Type 0
 HasWritten context s Writing first now parts = IsWriting context s first now parts

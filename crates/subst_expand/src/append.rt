@@ -1,4 +1,4 @@
-//! The output of a single part, appended to any output.
+//! Appending the output of a single part to any `Output`.
 
 ghost use Rattle.std.specs.Prelude.{◌≡◌, IfErr, IfOk, is_some};
 ghost use Rattle.subst_language.specs.Parts.Meaning.{IsInSource};
@@ -9,11 +9,12 @@ use crate::output::Output;
 use crate::read_value::ReadValue;
 use subst_language::{Part, VariableMap};
 
-/// Appends the output of a single part. Returns whether the part is a default whose name has a value.
+/// Appends the output of a single part to `output`. Returns whether the part is a default whose name has a
+/// value.
 ///
 /// # Errors
 ///
-/// If the output is too small and can't grow, or if the part's variable is needed and has no value.
+/// If `output` is too small and can't grow, or if the part's variable is needed and has no value.
 #[inline(always)]
 pub(crate) fn append_part<'a, M: VariableMap<'a>, R: ReadValue<M::Value>, W: Output>(
     source: &[u8],

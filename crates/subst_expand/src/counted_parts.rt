@@ -8,8 +8,8 @@ use crate::turns::Turns;
 use std::marker::Model;
 use subst_language::Part;
 
-/// A list of parts that is read one part at a time, with the counter of its turns. The expansion has no other
-/// access to the parts and no other counter, so each part that it looks at is counted.
+/// A list of parts that is read one part at a time, with the counter of the expansion's turns. The expansion
+/// has no other access to the parts and no other counter, so each part that it looks at is counted.
 ///
 /// Contracts see the unpacked parts and the number of turns.
 #[derive(Drop)]

@@ -40,7 +40,7 @@ pub(crate) const MORE_CAPACITY: usize = 64;
 pub enum Stop {
     /// The output is too small and can't grow.
     Full(AllocError),
-    /// The variable whose name is in this span of the source is needed and has no value.
+    /// A needed variable has no value. Its name is in this span of the source.
     Missing(Span),
 }
 
@@ -134,8 +134,8 @@ where
 ///
 /// # Errors
 ///
-/// As `expand`, but out of memory only if the output is too long for a `usize`. The contents of the slice are
-/// then unspecified.
+/// As `expand`, but out of memory only if the output is too long for a `usize`. After any error, the contents
+/// of the slice are unspecified.
 pub fn expand_into_slice<'s, 'a, M: VariableMap<'a>, R: ReadValue<M::Value>>(
     source: &'s [u8],
     parts: &CowParts<'_>,
@@ -219,8 +219,8 @@ where
     outcome
 }
 
-/// Appends the output of the parts of a list, as `append` does. Each arm of its `match` advances the index
-/// itself, which takes fewer instructions than a test of the result of `append_part`.
+/// Appends the output of the parts of a list, as `append` does. Doesn't call `append_part`: each arm of its
+/// `match` advances the index itself, which takes fewer instructions than a test of the call's result.
 #[inline(always)]
 fn append_list<'a, M: VariableMap<'a>, R: ReadValue<M::Value>, O: Offset, W: Output>(
     source: &[u8],

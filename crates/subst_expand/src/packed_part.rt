@@ -64,7 +64,7 @@ pub(crate) enum PackedPart<O> {
     Default { start: O, end: O, next: O },
 }
 
-// The fields are in the variants themselves, since a struct in a variant would take more bytes.
+// `PackedPart` has its fields in the variants themselves, since a struct in a variant would take more bytes.
 const _: () = prove!(size_of::<PackedPart<u32>>() == 16);
 
 impl<O: Offset> PackedPart<O> {

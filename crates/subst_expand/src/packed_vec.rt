@@ -1,5 +1,5 @@
-//! The list of packed parts that the parser appends to, with any type of offsets. Contracts see it as the
-//! list of its unpacked parts.
+//! The list to which the parser appends packed parts, generic in the type of their offsets and indexes.
+//! Contracts see it as the list of its unpacked parts.
 
 ghost use Rattle.std.specs.Prelude.{◌≡◌, ◌<◌, ◌^◌, [], ◌∷◌, ◌++◌, length, slice_set, IfOk, OnErr, OnOk};
 ghost use Rattle.subst_language.specs.Parts.Sink.{FitsBelow};

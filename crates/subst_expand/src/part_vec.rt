@@ -1,5 +1,5 @@
-//! Lists of packed parts of either width: a borrowed list, an owned list, and a list that is borrowed or
-//! owned. Contracts see each as the list of its parts.
+//! Lists of packed parts: a borrowed list, an owned list, and a list that is borrowed or owned. The offsets
+//! and indexes in a list have 32 or 64 bits. Contracts see each list as the list of its parts.
 
 ghost use Rattle.std.specs.Prelude.{◌≡◌, IfOk};
 

@@ -6,7 +6,8 @@ use std::convert::{AsSlice, AsStr};
 
 /// A reader of the bytes of a value.
 ///
-/// Contracts see the bytes of a value (`read`), and a property of all bytes that are read (`is_read`).
+/// Contracts see the bytes of a value (`read`), and a property that these bytes have as a whole (`is_read`),
+/// for example that they are UTF-8.
 pub trait ReadValue<V> {
     ghost read: { V → List ℕ };
 

@@ -96,8 +96,8 @@ fn kind_before(text: &[u8]) -> VariableKind
     }
 }
 
-/// Returns each variable that the parts of a source need and `variables` has no value for, in the order of
-/// the source. No value is read.
+/// Returns each variable that the parts of a source need but that has no value in `variables`, in the order
+/// of the source. No value is read.
 ///
 /// # Errors
 ///
@@ -151,7 +151,8 @@ where
     Ok(list)
 }
 
-/// Returns the variable that a part needs and `variables` has no value for, or `None` if there is none.
+/// Returns the variable that a part needs but that has no value in `variables`, or `None` if there is no such
+/// variable.
 ///
 /// # Errors
 ///
@@ -179,7 +180,8 @@ where
     Ok(Some(NoSuchVariableRef { position, name }.into_owned(alloc)?))
 }
 
-/// Returns the index of the next visited part: `next` of a default whose name has a value, or else `after`.
+/// Returns the index of the next part to visit: `next` of `part` if `part` is a default whose name has a
+/// value, or else `after`.
 fn next_index<'a, M: VariableMap<'a>>(
     source: &[u8],
     part: Part,

@@ -17,7 +17,8 @@ use subst_language::{Part, Sink, Span, VariableMap};
 pub(crate) enum State {
     /// The part is written.
     Writing,
-    /// The part is skipped. It is inside the default whose part has this index, and whose name has a value.
+    /// The part is skipped, since it is inside a default whose name has a value. The number is the index of
+    /// that default's part.
     Jumping(usize),
     /// The part is skipped, since writing has stopped.
     Stopped(Stop),
@@ -27,7 +28,7 @@ impl State {
     ghost use Rattle.std.specs.Prelude.{◌≡◌, ◌↔◌, IsTrue};
     ghost use Rattle.subst_expand.specs.declared.writer.State.TheVariants as states;
 
-    /// Returns whether parts are skipped up to the end of the default whose part has this index.
+    /// Returns whether parts are skipped up to the end of the default whose part is at `index`.
     fn is_inside(self, index: usize) -> bool
         ensures { IsTrue result ↔ (self ≡ states.Jumping index) }
     {

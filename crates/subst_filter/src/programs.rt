@@ -176,8 +176,8 @@ fn missing_variable_of_a_source_is_printed(rt: HostRuntime) -> Result<(), Fail> 
     Ok(())
 }
 
-/// Expects each task to have the end `expected` if its reader fails as `read` and its writer as `write`.
-/// Without failures, the output of each task is `a1`.
+/// Expects each task to have the end `expected` if `read` and `write` are the failing calls of its reader and
+/// its writer. Without failures, the output of each task is `a1`.
 fn expect_failure(alloc: Global, read: Fault, write: Fault, expected: &str) -> Result<(), Fail> {
     let lines: [&[&str]; 3] = [&["bytes", "A=1"], &["text", "A=1"], &["env"]];
     for line in lines {

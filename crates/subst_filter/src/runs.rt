@@ -84,8 +84,8 @@ impl<'a> Run<'a> {
 }
 
 /// Describes the end of a run: `gives Hello world!`, `read failed`, `write failed after Hello`, or a fault
-/// with its highlighting below. If the output wasn't flushed whole, or was flushed after an error, describes
-/// how many bytes were flushed.
+/// with its highlighting below. If a successful run didn't flush its whole output, or a failed run flushed
+/// any bytes, describes how many bytes were flushed.
 fn end_text(alloc: Global, ended: &Ended, drip: &Drip) -> Result<String, AllocError> {
     let written = String::from_utf8_lossy(alloc, drip.taken.as_slice())?;
     let written = written.as_str();
@@ -113,7 +113,7 @@ pub fn expect_runs(alloc: Global, call: Call, rows: &[(&str, &str, &str)]) -> Re
     Ok(())
 }
 
-/// Runs `run_text` over the text of each row without variables, and expects each run to end as its row
+/// Runs `run_text` without variables over the text of each row, and expects each run to end as its row
 /// describes.
 pub fn expect_texts(alloc: Global, rows: &[(&str, &str)]) -> Result<(), Fail> {
     for &(source, expected) in rows {

@@ -12,7 +12,7 @@ ReadsAll old new = IfSome old (λ _. new ≡ Some [])
 abbrev pub ReadsExactly : Option (List ℕ) → Option (List ℕ) → List ℕ → Type 0
 ReadsExactly old new bytes = IfSome old (λ source. (source ≡ bytes) × (new ≡ Some []))
 
--- A prefix of `bytes`, possibly empty or whole, was written. All written bytes are `old` before that, and
--- `new` after it. Nothing is required if `old` isn't known
+-- a prefix of `bytes` was written, possibly none or all of them. All written bytes are `old` before the
+-- write, and `new` after it. Nothing is required if `old` isn't known
 abbrev pub AppendsPrefix : Option (List ℕ) → Option (List ℕ) → List ℕ → Type 0
 AppendsPrefix old new bytes = (count : ℕ) × Appends old new (take count bytes)

@@ -39,9 +39,10 @@ IsRefusedWith source look e = IsSomeAnd (error_fault e) (λ f. Answers source lo
 abbrev pub IsRefusedBy : Task → List ℕ → LookUp → Type 0
 IsRefusedBy task source look = ¬ (Accepts task source) ⊎ (Accepts task source × IsRefused source look)
 
--- The result of a run is right for `source` and the look-up `look`; all written bytes are `old` before the
--- run, and `new` after it. Done: the output was written. Writing failed: a prefix of the output was written.
--- Refused: the error states the fault. Nothing is required of other results.
+-- the result of a run is right for `source` and the look-up `look`. All written bytes are `old` before the
+-- run, and `new` after it. If the run is done, the output was written. If writing failed, a prefix of the
+-- output was written. If the run refused the source, the error states the fault. Nothing is required of other
+-- results
 abbrev pub RunAnswers : List ℕ → LookUp → Result (Unit {0}) RunError → (old new : Option (List ℕ)) → Type 0
 RunAnswers source look (Ok done) old new = WritesAnswer source look old new
 RunAnswers source look (Err Write) old new = WritesPrefix source look old new
@@ -56,11 +57,11 @@ Reports P (Err OutOfMemory) = ⊤
 Reports P (Err NotUtf8) = ¬ P
 Reports P _ = P
 
--- a run over text, with this result, reports whether `source` is UTF-8
+-- a run over text with the result `result` reports whether `source` is UTF-8
 abbrev pub ReportsText : Result (Unit {0}) RunError → List ℕ → Type 0
 ReportsText result source = Reports (IsUtf8 source) result
 
--- P holds, unless reading failed or memory ran out; any other run has read its source to the end
+-- P holds, unless reading failed or memory ran out. A run that ended otherwise has read its source to the end
 abbrev pub OnceRead : Result (Unit {0}) RunError → Type 0 → Type 0
 OnceRead (Err Read) P = ⊤
 OnceRead (Err OutOfMemory) P = ⊤
@@ -76,7 +77,7 @@ abbrev pub UnlessWriteFails : {X : Type 0} → Result X RunError → Type 0 → 
 UnlessWriteFails (Err Write) P = ⊤
 UnlessWriteFails _ P = P
 
--- P holds, unless the run is done or writing failed; no other run can have written anything
+-- P holds, unless the run is done or writing failed. A run that ended otherwise can't have written anything
 abbrev pub UnlessWriting : Result (Unit {0}) RunError → Type 0 → Type 0
 UnlessWriting (Ok done) P = ⊤
 UnlessWriting (Err Write) P = ⊤

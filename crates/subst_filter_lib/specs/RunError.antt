@@ -9,13 +9,15 @@ use Rattle.subst_filter_lib.specs.declared.run_error.RunError.{RunError}
 use Rattle.subst_filter_lib.specs.declared.run_error.RunError.TheVariants.{Read, Write, NotUtf8, Subst, OutOfMemory}
 use Rattle.subst_filter_lib.specs.declared.status.TheConstants.{REFUSED, DEVICE_FAILED, OUT_OF_MEMORY}
 
--- the error of a read is right: `OutOfMemory`, or `Read` if the input has failed; `failed` is whether it has
+-- the error of a read is `OutOfMemory`, or it is `Read` and the input has failed. `failed` states whether the
+-- input has failed
 abbrev pub IsReadFault : Bool → RunError → Type 0
 IsReadFault failed Read = failed ≡ true
 IsReadFault failed OutOfMemory = ⊤
 IsReadFault failed _ = ⊥
 
--- the error of a write is right: `Write`, and the output has failed; `failed` is whether it has
+-- the error of a write is right: it is `Write`, and the output has failed; `failed` is whether the output has
+-- failed
 abbrev pub IsWriteFault : Bool → RunError → Type 0
 IsWriteFault failed Write = failed ≡ true
 IsWriteFault failed _ = ⊥

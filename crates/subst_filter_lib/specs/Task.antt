@@ -24,8 +24,8 @@ Accepts Bytes source = ⊤
 Accepts Text source = IsUtf8 source
 Accepts Environment source = IsUtf8 source
 
--- the value of each name for a task: for `Bytes` and `Text` in `arguments` after the first; for `Environment`
--- in `pairs`, the environment's names and values
+-- the value of each name for a task: `Bytes` and `Text` take it from the arguments after the first,
+-- `Environment` from the environment's `pairs`
 abbrev pub look_up_of_task : Task → List (String Global) → List (String Global × String Global) → LookUp
 look_up_of_task Bytes arguments pairs = last_value (drop 1 arguments)
 look_up_of_task Text arguments pairs = last_value (drop 1 arguments)

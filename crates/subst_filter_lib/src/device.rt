@@ -5,7 +5,7 @@ ghost use Rattle.std.specs.Io.KnownBytes.{ReadConsumes, WriteAppends, Keeps};
 
 pub mod standard;
 
-/// The error of a call whose device failed, without the cause.
+/// The error of a call whose device failed. It doesn't state the cause.
 #[derive(Clone, Copy, Debug, PartialEq, Eq)]
 pub struct Failed;
 

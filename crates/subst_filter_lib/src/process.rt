@@ -69,8 +69,8 @@ fn pairs(rt: &HostRuntime, arguments: &[String]) -> Result<Vec<(String, String)>
     Ok(pairs)
 }
 
-/// Converts the error `e` of reading the arguments into the program's error: out of memory, or else a failed
-/// read.
+/// Converts `e`, the error of reading the arguments, into the program's error: out of memory, or else a
+/// failed read.
 fn error_of_arguments(e: &io::Error) -> RunError
     ensures memory { error_kind e.now ≡ ErrorKind.OutOfMemory → result ≡ RunError.OutOfMemory }
     ensures other { error_kind e.now ≢ ErrorKind.OutOfMemory → result ≡ RunError.Read }
@@ -81,7 +81,7 @@ fn error_of_arguments(e: &io::Error) -> RunError
     }
 }
 
-/// Converts the error `e` of reading the environment into the program's error: out of memory, or else a
+/// Converts `e`, the error of reading the environment, into the program's error: out of memory, or else a
 /// failed read.
 fn error_of_pairs(e: &VarError) -> RunError
     ensures memory { e.now ≡ VarError.OutOfMemory → result ≡ RunError.OutOfMemory }

@@ -20,8 +20,8 @@ use std::fmt::Write;
 /// The usage line, printed if the arguments are wrong.
 const USAGE: &str = "usage: subst_filter bytes|text|env [NAME=VALUE]...\n";
 
-/// Runs the program with the arguments after its name, the names and values of the environment, and devices
-/// in place of its streams. Returns the exit status:
+/// Runs the program with the arguments after its name, with the names and values of the environment, and with
+/// devices in place of its streams. Returns the exit status:
 ///
 /// - [`DONE`]: the source was read from `input` to its end, its expansion was written to `output`, and
 ///   `output` was flushed.
@@ -45,7 +45,7 @@ pub fn run_program<I: ByteInput, O: ByteOutput, P: ByteOutput>(
     ensures statuses { result ≤ OUT_OF_MEMORY }
     ensures wrong_arguments { (result ≡ WRONG_ARGUMENTS) ↔ (task_of arguments.now ≡ None) }
 
-    // Done: the source was read to its end, and its expansion and nothing else was written.
+    // Done: the source was read to its end, and exactly its expansion was written.
     ensures done { result ≡ DONE → ReadsAll (I.left input.old) (I.left input.new)
         × IfSome (task_of arguments.now) (λ task. IfSome (I.left input.old) (λ source.
         Accepts task source × WritesAnswer source (look_up_of_task task arguments.now pairs.items)

@@ -17,7 +17,7 @@ pub enum RunError {
     /// The source isn't UTF-8, in a run over text.
     NotUtf8,
     /// The source is refused with this error. The text is the highlighting of the fault: the line of the
-    /// source, and carets below it. It is empty if the line is too wide, and in a run over bytes.
+    /// source, and carets below it. The text is empty if the line is too wide, or if the run is over bytes.
     Subst(Error, String),
     /// Memory ran out.
     OutOfMemory,

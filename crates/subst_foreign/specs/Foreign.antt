@@ -6,7 +6,7 @@ use Rattle.std.specs.Char.{is_ascii_digit}
 use Rattle.subst_language.specs.Language.Name.{BeginsWithNo}
 use Rattle.subst_language.specs.Language.Value.{Value, Bytes, Missing}
 
--- the value of a text: `Ok` with its bytes, or `Err` with the name of a missing variable
+-- the value of a text: `Ok` with the value's bytes, or `Err` with the name of a missing variable
 abbrev pub Given : Type 0
 Given = Result (List ℕ) (List ℕ)
 

@@ -13,8 +13,9 @@ use Rattle.subst_foreign.specs.declared.refused.ShellForm.TheVariants as form
 use Rattle.subst_language.specs.Language.Bytes.{dollar, colon, question_mark, opening_brace, closing_brace}
 use Rattle.subst_language.specs.Language.Name.{IsName, IsNameByte, BeginsWithNo}
 
--- A grammar of texts: the forms of variables, whether all names are chosen (`all`), and otherwise which names
--- are (`Has`). The choice may depend on whether an operator follows the name.
+-- A grammar of texts: the forms of variables, and the choice of names. If `all` is true, all names are
+-- chosen. Otherwise, a name is chosen if `Has` holds for it. The choice may depend on whether an operator
+-- follows the name.
 pub record Grammar : Type 1 where
   pub forms : Forms
   pub all : Bool
@@ -72,7 +73,7 @@ has_operator of.Common operator.ColonMinus = true
 has_operator of.Common operator.ColonQuestion = true
 has_operator of.Common _ = false
 
--- whether a message follows the operator, and not a text of the same forms
+-- whether a message follows the operator, rather than a default or a replacement
 abbrev pub takes_message : Operator → Bool
 takes_message operator.Question = true
 takes_message operator.ColonQuestion = true
@@ -142,7 +143,7 @@ IsMessage _ m = AllByRecursion IsNoBrace m
 abbrev pub ClosesMessage : Forms → List ℕ → Type 0
 ClosesMessage forms x = (m y : List ℕ) × IsMessage forms m × (x ≡ m ++ closing_brace ∷ y)
 
--- no brace closes a message at the start of the text x
+-- no brace closes a message at the start of the text x; in any but a shell's forms, x has no brace at all
 abbrev pub NeverCloses : Forms → List ℕ → Type 0
 NeverCloses of.Shell x = ¬ (ClosesMessage of.Shell x)
 NeverCloses _ x = AllByRecursion IsNoBrace x
@@ -212,8 +213,8 @@ IsRefused g inside form.Unclosed s =
     OpensMessage g (NeverCloses g.forms) s ⊎ GoesOn g form.Unclosed s
 IsRefused g inside form s = GoesOn g form s
 
--- for `Unclosed`, no brace closes the message at the start of the text x. For `Message`, the first brace in x
--- is an opening brace, and the forms aren't a shell's
+-- the message at the start of the text x has this refused form: `Unclosed` if no brace closes it; `Message`
+-- if the first brace in x is an opening brace and the forms aren't a shell's
 abbrev pub IsEndless : Forms → ShellForm → List ℕ → Type 0
 IsEndless forms form.Unclosed x = NeverCloses forms x
 IsEndless of.Shell form.Message x = ⊥

@@ -1,4 +1,4 @@
--- Lookups of names that begin with a digit, which no shell's name does: the digit is a question about the
+-- Look-ups of names that begin with a digit, which no name in a shell does: the digit is a question about the
 -- variable whose name follows it.
 use Rattle.std.specs.Prelude.{◌==◌, if◌then◌else◌, ℕ, List, [], ◌∷◌, Option, Some, None}
 use Rattle.subst_language.specs.Language.LookUp.{LookUp}
@@ -15,7 +15,7 @@ is_missing = 50
 abbrev pub is_empty : ℕ
 is_empty = 51
 
--- no bytes if there is no value, and `None` if there is one
+-- the empty value if there is no value, and `None` if there is one
 abbrev pub negated : Option (List ℕ) → Option (List ℕ)
 negated (Some x) = None
 negated None = Some []

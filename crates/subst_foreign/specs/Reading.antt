@@ -48,8 +48,8 @@ token_text Opening = opening_brace ∷ []
 token_text Closing = closing_brace ∷ []
 token_text (Refused form front) = front
 
--- `front` is the beginning of a refused form, after which reading resumes at x: a dollar or a brace; `${`;
--- `${` and a name; or the whole rest of the text if a brace never closes
+-- reading skips `front`, the beginning of a refused form, and resumes at x; `front` is a dollar, an opening
+-- brace, `${`, or `${` and a name; for `Unclosed`, `front` is the whole rest of the text
 abbrev pub IsFront : ShellForm → (front x : List ℕ) → Type 0
 IsFront form.Dollar front x = front ≡ dollar ∷ []
 IsFront form.Brace front x = front ≡ opening_brace ∷ []
@@ -117,7 +117,7 @@ part forms unset Opening = opening_brace ∷ []
 part forms unset Closing = closing_brace ∷ []
 part forms unset (Refused form front) = []
 
--- a token of the code as a token of the definitions; `front` is the spelling of a refused form
+-- a token of the code as a token of the definitions; `front` is the spelling of a `Refused` token
 abbrev pub token_of : (front : List ℕ) → SeenToken → Token
 token_of front (seen.Byte b) = Byte b
 token_of front seen.Dollars = Whole Dollar
@@ -148,7 +148,8 @@ IsAfterPlain depth s x = (run : List ℕ) × AllByRecursion (IsPlainAt depth) ru
 abbrev pub is_special_inside : ℕ → Bool
 is_special_inside b = b == dollar || b == backslash || b == opening_brace || b == closing_brace
 
--- the refused form at the end of a text: a variable at `outermost` if one is open at this depth, or none
+-- the refused form at the end of a text: the unclosed variable at `outermost` if the depth isn't 0, and
+-- otherwise none
 abbrev pub left_open : (depth outermost : ℕ) → List FormAt
 left_open zero outermost = []
 left_open (suc depth) outermost = record { position = outermost; form = form.Unclosed } ∷ []
@@ -170,7 +171,7 @@ pub record IsConverted (g : Grammar) (unset : Missing) (s source : List ℕ) (re
   pub template : refused ≡ [] → IsTemplate g unset s source
   pub is_text : refused ≡ [] → IsUtf8 s → IsUtf8 source
 
--- the token is that of the byte b inside a default, where b isn't a dollar
+-- the token is that of the byte b inside a default; b is any byte but a dollar
 abbrev pub IsInner : Forms → ℕ → SeenToken → Type 0
 IsInner forms b (seen.Byte c) = (c ≡ b) × IsNoBrace b
 IsInner forms b seen.Opening = (b ≡ opening_brace) × (forms ≡ of.Shell)
@@ -179,7 +180,7 @@ IsInner forms b (seen.Refused f) = (b ≡ opening_brace) × (forms ≢ of.Shell)
 IsInner forms b _ = ⊥
 
 -- The token of a dollar that begins nothing, before the name bytes n. In common forms it is refused, unless n
--- is a name that isn't chosen.
+-- is a name that doesn't begin with a digit.
 abbrev pub IsLone : Forms → List ℕ → SeenToken → Type 0
 IsLone forms n (seen.Byte b) = (b ≡ dollar) × (forms ≡ of.Common → IsName n × IsShellName n)
 IsLone forms n (seen.Refused f) = (forms ≡ of.Common) × (f ≡ form.Dollar) × (¬ (IsName n × IsShellName n))

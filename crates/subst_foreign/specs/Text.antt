@@ -33,7 +33,8 @@ mutual
 
 abbrev mutual
   -- The spelling of an item: a byte, `$$`, a variable such as `$name` or `${name}`, or `{text}`. With an
-  -- operator, a variable has its text or message, as in `${name:-text}` or `${name:?message}`.
+  -- operator, the spelling includes the text or message after the operator, as in `${name:-text}` or
+  -- `${name:?message}`.
   pub item_spelling : Item → List ℕ
   item_spelling (Byte b) = b ∷ []
   item_spelling (Whole head) = head_text head
@@ -80,7 +81,7 @@ abbrev pub found_or : Option (List ℕ) → Given → Given
 found_or (Some x) v = Ok x
 found_or None v = v
 
--- v if a value was found, or else nothing
+-- v if a value was found, or else the empty value
 abbrev pub if_found : Option (List ℕ) → Given → Given
 if_found (Some x) v = v
 if_found None v = Ok []
@@ -99,7 +100,7 @@ operated_value operator.Plus look n v = if_found (look n) v
 operated_value operator.ColonPlus look n v = if_found (without_empty look n) v
 operated_value _ look n v = found_or (look n) v
 
--- the value of the variable n with an operator and a message; if it is missing, its name
+-- the value of the variable n with an operator and a message, or else the missing name n
 abbrev pub required_value : Operator → LookUp → List ℕ → Given
 required_value operator.ColonQuestion look n = found (without_empty look n) n
 required_value _ look n = found (look n) n

@@ -17,7 +17,8 @@ use crate::token::{Step, Token, step_at};
 use memchr::memchr2;
 use std::alloc::{AllocError, Global};
 
-/// The result of a conversion: a template, valid only if nothing is refused, and the refused forms.
+/// The result of a conversion: a template and the refused forms. The template is valid only if no form is
+/// refused.
 #[derive(Drop)]
 pub(crate) struct Converted {
     pub template: Vec<u8>,
@@ -62,8 +63,8 @@ pub(crate) fn convert<N: Names>(
     Ok(Converted { template, refused })
 }
 
-/// Returns the offset of the outermost open variable after a token at `position`. At depth 0 this is
-/// `position`, and at any other depth still `outermost`.
+/// Returns the offset of the outermost open variable after a token at `position`. The offset is `position` if
+/// `depth`, the depth before the token, is 0, and otherwise still `outermost`.
 fn outermost_at(depth: usize, outermost: usize, position: usize) -> usize
     ensures { result ≡ spec_outermost depth outermost position }
 {
@@ -233,8 +234,8 @@ fn plain_ends(forms: Forms, missing: Missing) -> Option<(&'static [u8], &'static
     }
 }
 
-/// Returns the template's bytes before the name of a variable with an operator. In a shell's forms they may
-/// end in a digit, which makes the name a question to a `ShellMap`.
+/// Returns the template's bytes before the name of a variable with an operator. In a shell's forms these
+/// bytes may end in a digit, which a `ShellMap` reads as a question about the variable.
 fn opening(forms: Forms, operator: Operator) -> &'static [u8]
     ensures { (n end : List ℕ)
         → (in_braces (template_name forms (Some operator) n) end ≡ result.now ++ n ++ end) }

@@ -24,7 +24,7 @@ pub enum Forms {
 /// How an unset variable without an operator expands.
 #[derive(Clone, Copy, Debug, PartialEq, Eq)]
 pub enum Missing {
-    /// To an error: there is no such variable. With `Forms::Common`, still to nothing.
+    /// To an error, or to nothing if the forms are `Forms::Common`.
     Fault,
     /// To nothing.
     Nothing,

@@ -64,8 +64,8 @@ pub fn one_listing<N: Names>(style: Style<'_, N>)
 {}
 
 /// The law of one order. A template for a text has as many variables as the text, in the same order. Each
-/// variable of the template has the name by which the template looks up the text's variable with the same
-/// index.
+/// variable of the template has the name of the text's variable with the same index. A digit that a
+/// `ShellMap` reads may precede this name.
 pub fn variables_are_in_one_order<N: Names>(style: Style<'_, N>)
     ensures of_template { let g = grammar_of N.all N.counts style.entry in
         (s source : List ℕ) → IsTemplate g style.entry.missing s source
@@ -99,7 +99,7 @@ where
         (λ shell. by_question (M.look_up_bytes shell.map.now)) }
 {}
 
-/// The law of other names. For a name that doesn't begin with a digit, `ShellMap` agrees with `NoEmpty`.
+/// The law of names without a leading digit. For such a name, `ShellMap` agrees with `NoEmpty`.
 pub fn shell_names_are_no_questions()
     ensures no_empty { (look : LookUp) (name : List ℕ) → IsShellName name
         → by_question look name ≡ without_empty look name }

@@ -8,8 +8,9 @@ use std::alloc::{AllocError, Global};
 use std::collections::BTreeSet;
 use subst_language::VariableMap;
 
-/// A choice of the names that are variables. Implementations define two ghost members: `all`, whether every
-/// name is chosen, and `counts`, which names are chosen before an operator, and which without one.
+/// A choice of the names that are variables. Implementations define two ghost members. `all` states whether
+/// every name is chosen. `counts` states which names are chosen before an operator, and which are chosen if
+/// no operator follows.
 pub trait Names {
     ghost all: { Self → Bool };
 

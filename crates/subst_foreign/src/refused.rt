@@ -26,7 +26,7 @@ pub enum ShellForm {
     ColonEquals,
     /// `${NAME:+other}`.
     ColonPlus,
-    /// `${NAME:1:2}`, a substring, and any other colon after a name in braces.
+    /// `${NAME:1:2}`, a substring, or another form whose colon is followed by none of `-`, `?`, `=` and `+`.
     Colon,
     /// `${NAME#pattern}`.
     Hash,

@@ -29,7 +29,7 @@ pub struct ShellMap<'a, M> {
     pub map: &'a M,
 }
 
-/// Looks up a name: for a question its answer, for any other name its value, unless that value is empty.
+/// Looks up the answer if the name is a question. Any other name has its value, unless that value is empty.
 impl<'a, M: BytesMap<'a>> VariableMap<'a> for ShellMap<'a, M>
 where
     M::Value: AsSlice<u8> + Drop,

@@ -15,8 +15,8 @@ use crate::names::Names;
 use crate::refused::{FormAt, TextError};
 use std::alloc::{AllocError, Global};
 
-/// The style of a text: the forms and names of its variables, and how an unset one expands. All else is
-/// literal text.
+/// The style of a text: the forms and names of its variables, and how an unset variable expands. All other
+/// text is literal, or refused, or `$$` for a dollar.
 #[derive_where(Clone, Copy)]
 pub struct Style<'n, N> {
     /// The forms of variables.
@@ -62,12 +62,9 @@ impl<'n, N: Names> Style<'n, N> {
         }
     }
 
-    /// Lists the refused forms of a text, in order. Reading resumes after the beginning of each form, but
-    /// ends at a message that never closes. An unclosed variable comes last.
-    ///
-    /// # Errors
-    ///
-    /// If allocation fails.
+    /// Lists the refused forms of a text, in order. Reading resumes right after the beginning of a refused
+    /// form, except that it ends at a message that never closes. If variables are still open at the end of
+    /// the text, the outermost one is listed last.
     pub fn refusals(&self, alloc: Global, source: &[u8]) -> Result<Vec<FormAt>, AllocError>
         ensures refused { IfOk result (λ refused. IsReading (grammar_of N.all N.counts self.now)
             source.now refused.items) }

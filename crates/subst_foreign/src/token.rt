@@ -45,7 +45,8 @@ pub(crate) enum Token<'t> {
 /// A token, and the text after it.
 pub(crate) type Step<'t> = (Token<'t>, &'t [u8]);
 
-/// The end of a variable after its name in braces, with the text that follows.
+/// The end of a variable in braces, which begins right after the name. Every end but `Other` has the text
+/// after it.
 #[derive(Clone, Copy)]
 enum End<'t> {
     /// The closing brace.
@@ -106,7 +107,8 @@ fn dollar_step<'t, N: Names>(text: &'t [u8], style: Style<'_, N>) -> Step<'t>
     }
 }
 
-/// Returns `text` without its first byte if that is the second dollar of a token `$$`, or `None` otherwise.
+/// Returns the text after the second dollar of a token `$$`, or `None` if there is no such token. `text`
+/// follows the first dollar, and `is_whole` is whether the style has this token.
 fn second_dollar(text: &[u8], is_whole: bool) -> Option<&[u8]>
     ensures some { IfSome result (λ rest. IsTrue is_whole × (text.now ≡ dollar ∷ rest.now)) }
     ensures none { IfNone result (IsTrue is_whole → (rest : List ℕ)
@@ -144,7 +146,8 @@ fn braced_step<'t, N: Names>(text: &'t [u8], braced: &'t [u8], style: Style<'_, 
     }
 }
 
-/// Returns the token of `${`, `name` and `end`, or `None` if that is no variable. `after` follows `name`.
+/// Returns the token that begins with `${`, `name` and `end`, and the text after the token. Returns `None` if
+/// no variable begins with these three. `after` follows `name` and begins with `end`.
 fn head_step<'t, N: Names>(
     name: &'t [u8],
     after: &'t [u8],
@@ -235,7 +238,8 @@ fn rest_of_message(form: ShellForm, after: &[u8]) -> &[u8]
     }
 }
 
-/// Returns the message at the start of a text, and the text after its closing brace.
+/// Returns the message at the start of a text, and the text after its closing brace. An opening brace in a
+/// message is refused, unless the forms are a shell's.
 ///
 /// # Errors
 ///
@@ -310,7 +314,7 @@ fn operator_at(text: &[u8]) -> Option<(Operator, &[u8])>
     }
 }
 
-/// Returns the refused form of a name in braces, by the text after the name.
+/// Returns the refused form that begins with `${NAME`. `text` follows the name.
 fn form_at(text: &[u8]) -> ShellForm
     requires no_name { BeginsWithNo IsNameByte text.now }
     requires other_end { IsOtherEnd Common text.now }
@@ -332,7 +336,7 @@ fn form_at(text: &[u8]) -> ShellForm
     }
 }
 
-/// Returns the refused form of `${NAME:`, by the text after the colon.
+/// Returns the refused form that begins with `${NAME:`. `text` follows the colon.
 fn colon_form_at(text: &[u8]) -> ShellForm
     requires no_default { (x : List ℕ) → ¬ (text.now ≡ minus ∷ x) }
     requires no_message { (x : List ℕ) → ¬ (text.now ≡ question_mark ∷ x) }

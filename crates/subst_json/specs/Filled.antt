@@ -1,4 +1,4 @@
--- JSON texts whose strings are filled in in place.
+-- JSON texts with their strings filled in directly in the text.
 use Rattle.std.specs.Prelude.{◌≡◌, ℕ, nat_le, ◌==◌, Bool, not, ◌&&◌, List, [], ◌∷◌, ◌++◌, Some}
 use Rattle.json.specs.Lex.{tokens}
 use Rattle.json.specs.Token.{Token, begin_object, end_object, begin_array, end_array, key, string, number, boolean, null, bad}
@@ -37,14 +37,14 @@ is_plain b = nat_le 32 b && not (b == 34) && not (b == 92)
 abbrev pub IsPartOf : List ℕ → List ℕ → List ℕ → Type 0
 IsPartOf token piece part = IsTokenOf (34 ∷ piece ++ 34 ∷ []) part
 
--- The output is the source with its string values filled in in place, in order. Every value fits into a
--- token, with escapes.
+-- The output is the source with its string values filled in directly in the text, in order. Every value fits
+-- into a token, with escapes.
 abbrev pub IsFilledJson : (List ℕ → List ℕ → Type 0) → List ℕ → List ℕ → Type 0
 IsFilledJson Becomes source output =
     IsFilledText IsStringToken IsPartOf (λ _ _. Unit {0}) Becomes (strings_in (tokens source)) source output
 
--- The second token is the first one, filled in. A string becomes a string that `Becomes` relates to it, and
--- any other token is equal. A number is in the reader's range.
+-- The second token is the first one, filled in. A string becomes a string that `Becomes` relates to it. Any
+-- other token stays the same, but `bad` has no filled-in token. A number is in the reader's range.
 abbrev pub IsFilledToken : (List ℕ → List ℕ → Type 0) → Token → Token → Type 0
 IsFilledToken Becomes (string s) u = (x : List ℕ) × (u ≡ string x) × Becomes s x
 IsFilledToken Becomes (number s) u = (u ≡ number s) × (n : Num) × (number_of s ≡ Some n)
@@ -57,7 +57,7 @@ IsFilledToken Becomes (boolean b) u = u ≡ boolean b
 IsFilledToken Becomes null u = u ≡ null
 IsFilledToken Becomes bad u = ⊥
 
--- the second tokens are the first ones, filled in
+-- the second list of tokens is the first one, filled in
 abbrev pub AreFilled : (List ℕ → List ℕ → Type 0) → List Token → List Token → Type 0
 AreFilled Becomes [] us = us ≡ []
 AreFilled Becomes (t ∷ ts) us = (u : Token) × (more : List Token) × (us ≡ u ∷ more)

@@ -18,7 +18,7 @@ use Rattle.subst_json.specs.declared.error.Error.{Error}
 pub record IsFilledDocument (Becomes : List ℕ → List ℕ → Type 0) (source output : List ℕ) : Type 0 where
   -- the output is read as the source's tree with its strings filled in
   pub mapped : ReadsAsTree source (λ d. ReadsAsTree output (IsEach Becomes d))
-  -- all but the strings that change is kept
+  -- everything is kept except the strings that change
   pub kept : IsFilledJson Becomes source output
 
 -- The result of filling in a text. `ask` relates a string to its answers.

@@ -15,15 +15,15 @@ use Rattle.subst_json.specs.Filled.{strings_of_token, strings_in, IsStringToken}
 use Rattle.subst_json.specs.Paths.{steps_of}
 use Rattle.subst_json.specs.declared.path.Path.{Path}
 
--- The path to the part after a value, from the path to the value. In an array, that part is the next item.
--- Here, paths have their last step first.
+-- The path to the part after a value, computed from the value's path. In an array, that part is the next
+-- item. Elsewhere, the path stays the same. Here, paths have their last step first.
 abbrev pub past_value : List PathStep → List PathStep
 past_value [] = []
 past_value (Key k ∷ path) = Key k ∷ path
 past_value (Index i ∷ path) = Index (i + 1) ∷ path
 
--- The path to the next token, from a token and its path. In an object, the last step is the latest key, or an
--- empty key before the first key.
+-- The path to the next token, computed from a token and that token's path. In an object, the last step is the
+-- latest key, or an empty key before the first key.
 abbrev pub past_token : Token → List PathStep → List PathStep
 past_token begin_object path = Key [] ∷ path
 past_token begin_array path = Index 0 ∷ path
@@ -91,10 +91,10 @@ abbrev pub IsPathTo : (source : List ℕ) → ℕ → Path → Type 0
 IsPathTo source index path =
     slice_get (map (λ it. it.path) (located_in [] (tokens source))) index ≡ Some (steps_of path)
 
--- After one token, the refusals `rest` have become `left`, and the `paths` have become `with`. `strings` has
--- the token's string, or is empty if the token isn't a string. `index` and `steps` are the string's index and
--- path. Either both lists are unchanged, or the string is the first of `rest`: then `left` lacks it, and its
--- path is appended.
+-- After one token, the refusals `rest` have become `left`, and the paths `paths` have become `with`.
+-- `strings` has the token's string, or is empty if the token isn't a string. `index` and `steps` are the
+-- string's index and path. Either nothing changes, or the first refusal in `rest` is that of the string. In
+-- the second case, `left` is `rest` without this refusal, and `with` is `paths` and then the string's path.
 abbrev pub IsCollected : List PathStep → List (List ℕ) → ℕ → (rest left : List (found.RefusalAt ℕ))
     → (paths with : List Path) → Type 0
 IsCollected steps strings index rest left paths with =
@@ -112,7 +112,7 @@ AreRefused ask source all =
 pub record AreAllRefused (ask : List ℕ → Answer → Type 0) (source : List ℕ) (all : List RefusalAt) : Type 0 where
   -- each refusal has the span and the path of its string
   pub each : AreRefused ask source all
-  -- the refusals are those of the text's strings, in order; each other string has an output
+  -- the refusals are those of the text's strings, in order; every string that isn't refused has an output
   pub refused : AreRefusals ask (located_in [] (tokens source)) (map refusal_at all)
   pub spelled : AreSpelled IsStringToken source 0 (map string_of all)
   pub range : AllByRecursion HasRangeInText (map refusal_at all)

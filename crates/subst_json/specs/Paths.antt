@@ -9,8 +9,8 @@ use Rattle.subst_json.specs.declared.path.Path.{Path}
 abbrev pub steps_of : Path → List PathStep
 steps_of path = map step_of path.steps.items
 
--- The path leads to this string. A key leads to the value that the reader finds for the key, and an index to
--- the item at the index.
+-- The path leads from the tree d to the string s. A key leads to the value that the reader finds for the key,
+-- and an index to the item at the index.
 abbrev pub Leads : List PathStep → Data → List ℕ → Type 0
 Leads [] d s = d ≡ string s
 Leads (Key key ∷ path) d s = (e : Data) × (get key d ≡ Some e) × Leads path e s

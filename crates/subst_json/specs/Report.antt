@@ -24,8 +24,8 @@ abbrev pub ReportsRefused : (file s : List ℕ) → RefusalAt → List ℕ → T
 ReportsRefused file s it text =
     ReportsFault IsPlaceIn file s (pointer_text (steps_of it.path)) it.span (error_fault it.error) text
 
--- `text` is the reader's message. It has a position in s if s isn't JSON, and no position if the tree of s
--- doesn't fit a type.
+-- `text` reports the reader's message. The report has a position in s if s isn't JSON, and no position if the
+-- tree of s doesn't fit a type.
 abbrev pub ReportsReader : (file s text : List ℕ) → Type 0
 ReportsReader file s text =
     (place : Option (Range ℕ)) × (message : List ℕ)

@@ -19,9 +19,9 @@ use json::{Reader, Scratch, Token};
 use std::alloc::{AllocError, Global};
 use subst_document::{ChangedValues, Fill, ValueAt};
 
-/// Returns whether `output` is `source` with its strings filled in, token by token. The result is `false` if
-/// `source` isn't one value, or if its nesting or a number exceeds the limits of the reader of trees.
-/// `values` are the new values of the strings that change, so `filler` isn't called again.
+/// Compares two texts token by token, and returns whether `output` is `source` with its strings filled in.
+/// The result is `false` if `source` isn't one value, or if its nesting or a number exceeds the limits of the
+/// reader of trees. `values` are the new values of the strings that change, so `filler` isn't called again.
 pub(crate) fn is_filled<F: Fill>(
     alloc: Global,
     source: &str,
@@ -69,7 +69,8 @@ struct RemainingStrings<'v> {
 }
 
 impl RemainingStrings<'_> {
-    /// Takes `token`, the next token of the source, and returns whether `filled` is its filled-in token.
+    /// Takes `token`, the next token of the source, and returns whether `filled` is `token` filled in. Only
+    /// strings are filled in; any other token is unchanged.
     fn check_token<F: Fill>(&mut self, token: Token<'_>, filled: Token<'_>, filler: &F) -> bool
         ensures { IsTrue result → (rest : List spec.Token)
             → AreRemaining (GivesBy (F.answers filler.now)) self.old (token_of token.entry ∷ rest)
@@ -111,7 +112,8 @@ impl RemainingStrings<'_> {
     }
 }
 
-/// Returns whether two tokens are equal, and neither is a string. A number has to be in the reader's range.
+/// Returns whether two tokens are equal and aren't strings. A number also has to be in the range of the
+/// reader of trees.
 pub(crate) fn is_same(token: Token<'_>, other: Token<'_>) -> bool
     ensures { IsTrue result
         → IsFilledToken (λ _ _. ⊥) (token_of token.entry) (token_of other.entry) }
@@ -129,7 +131,8 @@ pub(crate) fn is_same(token: Token<'_>, other: Token<'_>) -> bool
     }
 }
 
-/// Returns whether a number is in the reader's range: numbers too large for a float are refused.
+/// Returns whether a number is in the range of the reader of trees, which refuses numbers too large for a
+/// float.
 #[tactic(auto, using(crate::proofs::NumberLemmas::with_minus, crate::proofs::NumberLemmas::without_minus))]
 fn is_in_range(number: &str) -> bool
     ensures { IsTrue result → (n : Num) × (number_of number.now ≡ Some n) }

@@ -1,4 +1,4 @@
-//! Filling in of the strings of a JSON text in place, with every other byte kept.
+//! Fills in the strings of a JSON text, and keeps every other byte.
 
 ghost use Rattle.std.specs.Prelude.{◌≡◌, ⊤, IfErr, IfNone, IfOk, IfSome, None, Some, string_bytes};
 ghost use Rattle.json.specs.Lex.{tokens};
@@ -56,7 +56,7 @@ where
     fill_in_by(alloc, source, &Filler { variables })
 }
 
-/// Fills in the strings of a JSON text, given as bytes, as [`fill_in`].
+/// Fills in the strings of `source`, the bytes of a JSON text, as [`fill_in`].
 ///
 /// # Errors
 ///
@@ -127,7 +127,7 @@ fn confirmed<F: Fill>(
     }
 }
 
-/// Returns `output` if `source` is JSON. `output` is the text of `source`, in which no string changes.
+/// Returns `output` if `source` is JSON. `output` equals `source`, since no string changes.
 ///
 /// # Errors
 ///
@@ -161,7 +161,7 @@ fn unconfirmed(alloc: Global, source: &str) -> Result<Option<String>, Error>
     Ok(None)
 }
 
-/// Returns the error of `source`, which has a string that is refused for `e`.
+/// Returns the final error after filling in `source` failed with `e`.
 ///
 /// # Errors
 ///

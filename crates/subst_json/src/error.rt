@@ -76,9 +76,9 @@ impl fmt::Display for Error {
 
     ghost output = { display_of_json };
 
-    // The clause `writes` doesn't state the error's text if it quotes a non-ASCII character, which may be
-    // escaped or not. If a string is refused, the clause `text` states that the error's text has one of these
-    // two forms.
+    // If the error's text quotes a non-ASCII character, the clause `writes` doesn't state the text, since the
+    // character may be escaped or not. If a string is refused, the clause `text` states the error's text, but
+    // leaves this choice open.
     fn fmt<W: fmt::Write>(&self, f: &mut fmt::Formatter<W>) -> fmt::Result
         ensures writes { DisplaysOnOk W.write_str_gives f.old result
             (display_of_json self.now) f.new }

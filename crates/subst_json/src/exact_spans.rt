@@ -10,7 +10,7 @@ use json::{Reader, Scratch, Token};
 use std::alloc::{AllocError, Global};
 use subst_document::{Plain, StringAt, with_plain};
 
-/// A filler that replaces each string by `null`.
+/// The replacement `null` for each string.
 #[derive(Clone, Copy)]
 struct Nulls;
 

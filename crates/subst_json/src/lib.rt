@@ -122,7 +122,7 @@ where
     ensures subst { StatesFirst M.Value.text M.see (M.look_up variables.now) source.now result }
     ensures range { OnSubst result HasRange }
 
-    // Neither `Json` nor `Subst` is an error of memory.
+    // Neither `Json` nor `Subst` wraps a failure to allocate.
     ensures memory { IfErr result HasOwnMemory }
 {
     let value = Value::from_str(alloc, source)?;

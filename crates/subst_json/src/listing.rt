@@ -54,7 +54,7 @@ where
     refusals_by(alloc, source, &Filler { variables })
 }
 
-/// Lists the strings of `source`, a JSON text, that `filler` refuses, as [`refusals_in`].
+/// Lists the strings that `filler` refuses in `source`, a JSON text, as [`refusals_in`].
 ///
 /// # Errors
 ///
@@ -87,7 +87,8 @@ fn listed(alloc: Global, source: &str) -> Result<Option<Vec<StringAt>>, AllocErr
     }
 }
 
-/// Returns the refused strings among the tokens of a text, or `None` if a span isn't confirmed.
+/// Returns the refused strings among the tokens of a text, or `None` if a span isn't confirmed or a path
+/// isn't found.
 ///
 /// # Errors
 ///

@@ -30,7 +30,7 @@ enum Expected {
 }
 
 impl Expected {
-    /// Returns the part expected after a value, or `None` if no value is expected.
+    /// Returns the part expected next when this part is a value, or `None` if this part can't be a value.
     fn after_value(self) -> Option<Expected>
         ensures { IfSome result (λ after. (j : Json) → (more : List Expected)
             → (rest : List spec.Token) → depth j + length more ≤ max_depth

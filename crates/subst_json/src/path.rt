@@ -48,7 +48,7 @@ fn write_step<W: fmt::Write>(f: &mut fmt::Formatter<W>, step: &PathStep) -> fmt:
     }
 }
 
-/// Writes a key with `~` as `~0` and `/` as `~1`.
+/// Writes a key, with each `~` as `~0` and each `/` as `~1`.
 ///
 /// # Errors
 ///

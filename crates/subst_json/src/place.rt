@@ -1,5 +1,5 @@
-//! Spans of parts of a string in the JSON text it is read from. Each span is confirmed by the reader before
-//! it is returned.
+//! The spans in a JSON text that spell parts of one of its strings. Each span is confirmed by the reader
+//! before it is returned.
 
 ghost use Rattle.std.specs.Prelude.{◌≡◌, ◌++◌, ◌<◌, ◌≤◌, ◌∷◌, [], length, string_bytes, take, IfOk, IfSome, MatchOption, None, Some};
 ghost use Rattle.serde_json.specs.Read.{read};
@@ -74,7 +74,8 @@ fn read_string(alloc: Global, text: &str) -> Result<Option<String>, AllocError>
 }
 
 /// Returns how many bytes of `token`, opening quote included, spell the first `offset` bytes of `string`.
-/// Returns `None` if these bytes, closed with a quote, aren't read back as that part of the string.
+/// Returns `None` if these bytes of `token`, closed with a quote, aren't read back as the first `offset`
+/// bytes of `string`.
 fn spelled_until(
     alloc: Global,
     token: &str,

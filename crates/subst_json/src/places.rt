@@ -1,5 +1,5 @@
-//! The spans in a JSON text that spell many ranges of one string. Each piece of the string's token is read by
-//! itself between quotes. Only spans that the reader confirms are returned.
+//! The spans in a JSON text that spell many ranges of one string. Each piece of the string's token is put
+//! between quotes and read on its own. Only spans that the reader confirms are returned.
 
 ghost use Rattle.std.specs.Prelude.{◌≡◌, ◌++◌, ◌∷◌, [], IfOk, IfSome, IsTrue};
 ghost use Rattle.subst_json.specs.Places.{IsTokenOf};

@@ -251,8 +251,8 @@ fn string_of<'t>(token: Token<'t>) -> Option<&'t str>
     }
 }
 
-/// Returns a text with its strings filled in, or `None` if a string changes but its old or new token isn't
-/// found. Doesn't check that the text is JSON.
+/// Returns a text with its strings filled in. Returns `None` if a string that changes isn't spelled at its
+/// span, or if no token for its new value is found. Doesn't check that the text is JSON.
 ///
 /// # Errors
 ///

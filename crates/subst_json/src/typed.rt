@@ -12,9 +12,9 @@ use std::alloc::Global;
 
 /// A type that a tree can be converted into: any that `serde` deserializes.
 pub trait FromTree: Sized + Drop {
-    // The relation of a tree and the possible results of its conversion. For the types of `serde`, nothing is
-    // known about the results. Even so, a contract that holds for every such relation states which tree is
-    // converted.
+    // The relation of a tree and the possible results of its conversion. For the types of `serde`, the
+    // relation always holds, since nothing is known about the results. Even so, a contract with this relation
+    // states which tree is converted, since the contract is proved for every relation.
     ghost reads: { Data → Result Self Error → Type 0 };
 
     /// Converts a tree, or returns an error if it doesn't fit this type.

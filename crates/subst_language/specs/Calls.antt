@@ -1,4 +1,5 @@
--- The terms of public contracts besides those of the language: look-ups of maps, and results as answers.
+-- Terms that public contracts use besides the terms of the language: look-ups of maps, and results as
+-- answers.
 pub mod Clauses
 pub mod Outcome
 pub mod VariableMap

@@ -1,5 +1,5 @@
 -- The earlier language, without `${name?}`, and how the present one extends it. Each definition that changed
--- is here as it was, under its name; all others are shared.
+-- is here in its earlier form, under the same name; all others are shared.
 pub mod Answer
 pub mod BadItem
 pub mod Extension

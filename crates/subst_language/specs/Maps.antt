@@ -32,7 +32,7 @@ btree_get_by_borrowed_text map name = btree_get_by (λ key. slice_cmp nat_cmp na
 abbrev pub hash_get_by_borrowed_text : {V S : Type 0} → HashMap (Bor (List ℕ)) V S → List ℕ → Option V
 hash_get_by_borrowed_text map name = hash_get_by (λ key. bytes_eq name key.now) map
 
--- `first` of the value in a `First`, or `second` of the value in a `Second`
+-- `first` applied to the value in a `First`, or `second` applied to the value in a `Second`
 abbrev pub of_one : {A B C : Type 0} → (A → C) → (B → C) → OneOf A B → C
 of_one first second (First a) = first a
 of_one first second (Second b) = second b

@@ -28,18 +28,18 @@ ghost use Rattle.subst_language.specs.Language.Written.{written};
 ghost use Rattle.subst_language.specs.Language.Counts.{part_count, visited_count};
 
 /// The law of one reading. Each byte string is a sentence of the template language or has a fault, never
-/// both. A sentence is the text of exactly one well-formed tree. Any other byte string has exactly one fault,
-/// for each position at which it may begin in a source.
+/// both. A sentence is the text of exactly one well-formed tree. Any other byte string has exactly one fault
+/// for each position in a source at which the byte string may begin.
 pub fn law_1()
     ensures reading { (s : List ℕ) → OneTreeOrOneFault s }
 {}
 
-/// The law of joined sentences. Let a text follow a sentence, and not continue a name at the sentence's end.
-/// If the text has a fault, the whole has the same fault, with its position moved by the sentence's length.
-/// If the text is a sentence too, so is the whole, with the two trees joined and the two outputs
-/// concatenated. If both are sentences and a variable of the leading one is missing, the whole is refused
-/// like the leading one. If only variables of the following one are missing, the whole is refused like that
-/// one, with the position moved likewise.
+/// The law of joined sentences. Suppose that a text follows a sentence and doesn't continue a name at the
+/// sentence's end. If the text has a fault, the whole has the same fault, with its position moved by the
+/// sentence's length. If the text is a sentence too, so is the whole, with the two trees joined and the two
+/// outputs concatenated. If both are sentences and a variable of the first one is missing, the whole is
+/// refused like the first one. If only variables of the second one are missing, the whole is refused like the
+/// second one, with the position moved likewise.
 pub fn law_2()
     ensures tree { (t u : Tree) (a b : List ℕ) → Spells t a → Spells u b → IsFollowed t b
         → Spells (join t u) (a ++ b) }
@@ -56,9 +56,9 @@ pub fn law_2()
         → Answers (a ++ b) look (Refuses f) }
 {}
 
-/// The law of escaped texts. If a backslash is put before each special byte of a text, a sentence results
-/// that expands to the text, under every look-up. As the default of a placeholder, this sentence also expands
-/// to the text, if the look-up has no value for the placeholder's name.
+/// The law of escaped texts. A text with a backslash put before each special byte is a sentence that expands
+/// to the original text, under every look-up. A placeholder with this sentence as its default also expands to
+/// the original text, if the look-up has no value for the placeholder's name.
 pub fn law_3()
     ensures alone { (x : List ℕ) (look : LookUp) → Answers (escaped x) look (Gives x) }
     ensures as_default { (n x : List ℕ) (look : LookUp) → IsName n → look n ≡ None
@@ -112,10 +112,11 @@ pub fn law_8()
     ensures itself { (s : List ℕ) (look : LookUp) → All IsPlain s → Answers s look (Gives s) }
 {}
 
-/// The law of extension. Each sentence of the earlier language, which had no `${name?}`, is a sentence. It
-/// has the same tree, item for item, and the same value at each position under each look-up. A byte string
-/// without a question mark is a sentence of both languages or of neither. If of neither, its faults in the
-/// two languages are equal except for the message of what was expected.
+/// The law of extension. Each sentence of the earlier language, which had no `${name?}`, is a sentence of the
+/// present language. It has the same tree, item for item. At each position in a source and under each
+/// look-up, it has the same value. A byte string without a question mark is a sentence of both languages or
+/// of neither. If it is a sentence of neither, its faults in the two languages are equal except for the
+/// message of what was expected.
 pub fn law_9()
     ensures kept { (s : List ℕ) → KeepsReading s }
 {}
@@ -132,11 +133,12 @@ pub fn missing_variables_are_missing()
         → ¬ (Answers s look (Refuses (NoSuchVariable position name))) }
 {}
 
-/// The law of all missing variables. The list of a tree's missing variables is empty if and only if the
-/// tree's value is bytes. Otherwise the list begins with the variable that an expansion is refused for. The
-/// list has only required variables of the tree, in the tree's order, and the look-up has no value for any of
-/// them. A second look-up with values for these variables, and for all names with a value in the first,
-/// expands the tree to bytes. The names of a tree's variables are the names in the tree.
+/// The law of all missing variables. Under a look-up, the list of a tree's missing variables is empty if and
+/// only if the tree's value is bytes. Otherwise the list begins with the variable that an expansion is
+/// refused for. The list has only required variables of the tree, in the tree's order, and the look-up has no
+/// value for any of them. Take a second look-up that has values for these variables and for all names with a
+/// value in the first look-up. Under the second look-up, the tree's value is bytes. A tree's list of
+/// variables and its list of names have the same names, in the same order.
 pub fn missing_lists_are_whole()
     ensures none { (p : ℕ) (t : Tree) (look : LookUp)
         → (all_missing p t look ≡ [] ↔ ((x : List ℕ) × (value p t look ≡ Bytes x))) }
@@ -174,9 +176,9 @@ pub fn outputs_are_bounded()
         → visited_length t look ≤ sum_by (length_of look) (names_in t) }
 {}
 
-/// The law of writing. If a tree's value is bytes, an evaluation writes exactly these bytes. An evaluation
-/// never writes more bytes than the visited plain and escaped bytes of the tree and the values of visited
-/// variables have together.
+/// The law of writing. If a tree's value is bytes, an evaluation writes exactly these bytes. The number of
+/// written bytes is always at most the number of visited plain and escaped bytes, plus the lengths of visited
+/// variables' values.
 pub fn writes_are_bounded()
     ensures exact { (p : ℕ) (t : Tree) (look : LookUp) (x : List ℕ) → value p t look ≡ Bytes x
         → written p t look ≡ x }

@@ -16,8 +16,8 @@ pub enum Part {
     Escaped(u8),
     /// A required variable: the range of its name.
     Variable(Span),
-    /// A variable with a default. The parts of the default follow, up to the index `next`, and are skipped if
-    /// the map has a value for the name. An optional variable has an empty default, so `next` is the index
-    /// after this part.
+    /// A variable with a default. The parts of the default follow this part and end before the index `next`.
+    /// They are skipped if the map has a value for the name. An optional variable has an empty default, so
+    /// its `next` is the index after this part.
     Default { name: Span, next: usize },
 }

@@ -52,7 +52,8 @@ pub trait Sink {
         ensures kept { OnErr result (Keeps holds self.old self.new) }
         ensures cause { OnErr result asks };
 
-    /// Appends a default and opens it: parts appended until it is closed are its own. Returns its index.
+    /// Appends a default, opens it, and returns its index. Until the default is closed, all parts appended
+    /// after it are its own.
     ///
     /// # Errors
     ///
@@ -64,8 +65,8 @@ pub trait Sink {
         ensures kept { OnErr result (Keeps holds self.old self.new) }
         ensures cause { OnErr result asks };
 
-    /// Closes the innermost open default, which has this index and name. All parts that follow it in the sink
-    /// are the default's own.
+    /// Closes the innermost open default, whose index is `index` and whose name is in the range `name`. All
+    /// parts after the default in the sink are its own.
     fn close(&mut self, index: usize, name: Span)
         requires { CanClose holds limit self.old index name }
         ensures { ClosesDefault holds self.old index name self.new };

@@ -14,10 +14,10 @@ pub struct Variable<'t> {
 /// How an unset variable expands.
 #[derive(Clone, Copy, Debug, PartialEq, Eq)]
 pub enum VariableKind {
-    /// `$name` or `${name}`: to an error.
+    /// `$name` or `${name}`, which is an error if it is unset.
     Required,
-    /// `${name?}`: to nothing.
+    /// `${name?}`, which expands to nothing if it is unset.
     Optional,
-    /// `${name:default}`: to its default.
+    /// `${name:default}`, which expands to its default if it is unset.
     WithDefault,
 }

@@ -40,7 +40,7 @@ fn filled_in(alloc: Global, template: &ByteTemplate<'_>) -> Result<Vec<u8>, Erro
     Ok(template.expand(alloc, &variables)?)
 }
 
-/// Prints the source of a template, and its output.
+/// Prints the source of a template, and then its output or error.
 impl Show for ByteTemplate<'_> {
     fn show(&self, rt: &HostRuntime, word: &str) {
         print_bytes(rt, word, self.source());
@@ -105,8 +105,7 @@ fn fill_in(rt: &HostRuntime, name: &str, source: &[u8]) -> Result<(), AllocError
     Ok(())
 }
 
-/// Expands `bytes`, passed by value. If an earlier call has taken `bytes`, a copy of `source` is expanded
-/// instead.
+/// Takes `bytes` and expands them. If an earlier call has taken `bytes`, expands a copy of `source` instead.
 fn expand_owned(
     alloc: Global,
     bytes: &mut Option<Vec<u8>>,

@@ -5,9 +5,9 @@ use subst::Error;
 use subst::error::{ExpandError, NoSuchVariable, ParseError};
 use subst_testing::answers::fault_text;
 
-/// Makes a call, named `$name` in `docs/MEMORY.md`, and repeats it if its result matches `$out_of_memory`.
-/// Prints the borrowed values before the call. Then prints the call's result, the borrowed values again, and
-/// an empty line.
+/// Makes a call after a mark with `$name`, and repeats it if its result matches `$out_of_memory`. Prints the
+/// borrowed values before the call. Then prints the call's result, the borrowed values again, and an empty
+/// line.
 macro_rules! again {
     ($rt:ident, $name:expr, [$($borrowed:ident),*], $out_of_memory:pat => $call:expr) => {
         $($borrowed.show($rt, "borrowed");)*
@@ -25,7 +25,7 @@ macro_rules! again {
     };
 }
 
-/// Makes a call between marks, the first of which names it `$name`, and returns the result.
+/// Makes the call `$call` between printed marks, and returns its result. The first mark contains `$name`.
 macro_rules! once {
     ($rt:expr, $name:expr => $call:expr) => {{
         $crate::marks::begin($rt, $name);

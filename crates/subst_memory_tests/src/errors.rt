@@ -1,4 +1,4 @@
-//! Clones of errors, and the report of an error over its source.
+//! Calls that clone errors, and that highlight an error or a range in a source.
 
 ghost use Rattle.std.specs.Prelude.{◌≡◌, Some};
 ghost use Rattle.subst.specs.ErrorFault.{error_fault};

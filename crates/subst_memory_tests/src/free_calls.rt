@@ -111,8 +111,8 @@ fn templates(rt: &HostRuntime) -> Result<(), Error> {
     Ok(())
 }
 
-/// Makes the calls over a source without dollars and backslashes: `is_plain`, and the two that take the
-/// source by value, as a text and as bytes.
+/// Makes the calls over a source without dollars and backslashes: `is_plain`, `substitute_owned` and
+/// `substitute_bytes_owned`.
 fn plain_sources(rt: &HostRuntime) -> Result<(), Error> {
     let alloc = rt.alloc();
     let text = String::from_str(alloc, "{a: b}")?;

@@ -38,7 +38,8 @@ fn unexpected() -> UnexpectedCharacter {
     }
 }
 
-/// Writes the text of a value into a buffer with enough capacity, and prints whether it is complete.
+/// Writes the text of a value into a buffer with enough capacity, and prints whether the buffer then holds
+/// exactly that text.
 pub fn display<D: Display>(rt: &HostRuntime, call: &str, value: &D) -> Result<(), AllocError> {
     let text = value.to_string(rt.alloc())?;
     let mut capacity = String::with_capacity(rt.alloc(), 128)?;

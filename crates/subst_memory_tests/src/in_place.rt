@@ -80,7 +80,8 @@ fn ranges() -> [Range<usize>; 2] {
     [3..9, 9..9]
 }
 
-/// Makes a format's calls that fill in a document: `$source`, or `$missing` with its two refused strings.
+/// Makes a format's calls that fill in a document: over `$source`, and over `$missing`, which has two refused
+/// strings.
 macro_rules! calls_of_fill_in {
     ($rt:ident, $format:ident $name:literal => $source:ident, $missing:ident) => {
         let alloc = $rt.alloc();

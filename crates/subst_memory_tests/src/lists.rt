@@ -52,8 +52,8 @@ fn of_byte_owner(rt: &HostRuntime, owner: &ByteTemplateBuf) -> Result<(), AllocE
     Ok(())
 }
 
-/// Makes the calls whose lists are empty: over a text without variables, and with a map that has all needed
-/// variables.
+/// Makes the calls that return empty lists: `variables` of a template without variables, and `missing` with a
+/// map that has all needed variables.
 fn of_nothing(rt: &HostRuntime) -> Result<(), Error> {
     let alloc = rt.alloc();
     let plain = Template::from_str(alloc, "Hé \\$a!")?;

@@ -8,7 +8,7 @@ use subst::error::{ExpandIntoError, ParseError, SubstituteIntoError};
 use subst::{ByteTemplate, Error, Template, substitute_bytes_into, substitute_into, yaml};
 use subst_testing::variables;
 
-/// How often the sentence is repeated.
+/// How often `texts::SENTENCE` is repeated in a source, and `ITEM` in a document.
 const TIMES: usize = 300;
 
 /// The part of a document that is repeated.

@@ -2,7 +2,7 @@
 
 use std::io::Print;
 
-/// Prints the mark before a call, with its name in `docs/MEMORY.md`.
+/// Prints the mark before a call, with the call's name.
 pub fn begin(rt: &impl Print, call: &str) {
     let _ = rt.println(format_args!("call: {call}"));
 }

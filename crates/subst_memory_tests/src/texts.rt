@@ -35,7 +35,7 @@ fn filled_in(alloc: Global, template: &Template<'_>) -> Result<String, Error> {
     Ok(template.expand(alloc, &variables)?)
 }
 
-/// Prints the source of a template, and its output.
+/// Prints the source of a template, and then its output or error.
 impl Show for Template<'_> {
     fn show(&self, rt: &HostRuntime, word: &str) {
         print(rt, word, self.source());
@@ -85,8 +85,7 @@ fn fill_in(rt: &HostRuntime, name: &str, source: &str) -> Result<(), AllocError>
     Ok(())
 }
 
-/// Expands `text`, passed by value. If an earlier call has taken `text`, a copy of `source` is expanded
-/// instead.
+/// Takes `text` and expands it. If an earlier call has taken `text`, expands a copy of `source` instead.
 fn expand_owned(
     alloc: Global,
     text: &mut Option<String>,

@@ -12,8 +12,9 @@ use Rattle.subst_parse.specs.declared.tape.Tape.{Tape}
 abbrev pub GrowsBetween : (low high old new : ℕ) → Type 0
 GrowsBetween low high old new = (old + low ≤ new) × (new ≤ old + high)
 
--- Each byte in from..to has the property P, and the byte at `to` doesn't, or the source ends there. The bytes
--- in from..to were read, and so was the byte at `to`, if there is one. The tape was `before` and is `after`.
+-- Each byte in from..to has the property P, and the byte at `to` doesn't, unless the source ends there.
+-- Between the tapes `before` and `after`, the bytes in from..to were read, and so was the byte at `to`, if
+-- there is one.
 pub record FindsEnd (P : ℕ → Type 0) (before : Tape) (from to : ℕ) (after : Tape) : Type 0 where
   pub run : IsRun P before.source.now from to
   pub end : BeginsWithNo P (drop to before.source.now)

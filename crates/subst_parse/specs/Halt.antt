@@ -5,7 +5,8 @@ use Rattle.subst_language.specs.Language.BadItem.{after_name, after_question_mar
 use Rattle.subst_parse.specs.declared.halt.Halt.{Halt}
 use Rattle.subst_parse.specs.declared.halt.Halt.TheVariants.{EscapeAtEnd, BadEscape, NoName, AfterName, AfterQuestionMark, Unclosed, OutOfMemory}
 
--- the fault that a `Halt` states, with the message of what was expected, if any; `None` for out of memory
+-- the fault that a `Halt` states, or `None` if memory ran out; the fault of an unexpected character includes
+-- the message of what was expected
 abbrev pub halt_fault : Halt → Option Fault
 halt_fault (EscapeAtEnd position) = Some (InvalidEscapeSequence position None)
 halt_fault (BadEscape position c) = Some (InvalidEscapeSequence position (Some c))

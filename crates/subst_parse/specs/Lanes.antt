@@ -18,8 +18,8 @@ pub record HasOutside (P : ℕ → Type 0) (bytes lanes : List ℕ) : Type 0 whe
   pub inside : (k : ℕ) → k < 32 → slice_index lanes k < 128 → P (slice_index bytes k)
   pub outside : (k : ℕ) → k < 32 → 128 ≤ slice_index lanes k → ¬ (P (slice_index bytes k))
 
--- the mask has a bit set for each byte of the source s in from..to of which P doesn't hold; the lowest bit is
--- that of the first byte
+-- the mask has a set bit for each byte of the source s in from..to, unless P holds of the byte; the lowest
+-- bit is that of the first byte
 pub record MarksOutside (P : ℕ → Type 0) (s : List ℕ) (from to mask : ℕ) : Type 0 where
   pub inside : (k : ℕ) → from + k < to → bit_at mask k ≡ 0 → P (slice_index s (from + k))
   pub outside : (k : ℕ) → bit_at mask k ≡ 1 → (from + k < to) × (¬ (P (slice_index s (from + k))))

@@ -1,4 +1,4 @@
--- The text that the parser has read so far, and the meaning of its parts and open defaults.
+-- The text that the parser has read so far, and the meaning of the parser's parts and open defaults.
 use Rattle.std.specs.Prelude.{◌≡◌, ℕ, suc, ◌+◌, ◌^◌, ◌<◌, ◌≤◌, List, [], ◌∷◌, ◌++◌, length, drop, reverse, Bool, true, false, IsTrue, Result, Ok, Err, IfNone, IfSome, Contains}
 use Rattle.subst_language.specs.Language.Bytes.{colon, IsPlain}
 use Rattle.subst_language.specs.Language.Tree.{Tree, text}

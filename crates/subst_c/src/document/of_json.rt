@@ -42,7 +42,8 @@ fn text_refusal(alloc: Global, source: &str, e: &serde_json::Error) -> Result<Un
     Ok(invalid(source, stop.offset..stop.offset, stop.message))
 }
 
-/// Returns the refusal of the first refused string, or `NotConfirmed` if that string isn't found.
+/// Returns the refusal of the first refused string, or `NotConfirmed` if that string or the place of its
+/// fault isn't found.
 ///
 /// # Errors
 ///

@@ -44,7 +44,8 @@ fn text_refusal(alloc: Global, source: &str, e: &toml::de::Error) -> Result<Unfi
     Ok(invalid(source, e.span().unwrap_or(0..0), message))
 }
 
-/// Returns the refusal of the first refused string, or `NotConfirmed` if that string isn't found.
+/// Returns the refusal of the first refused string, or `NotConfirmed` if that string or the place of its
+/// fault isn't found.
 ///
 /// # Errors
 ///

@@ -42,7 +42,8 @@ fn text_refusal(alloc: Global, source: &str, fault: &Fault) -> Result<Unfilled, 
     Ok(invalid(source, fault.span.start..fault.span.end, message))
 }
 
-/// Returns the refusal of the first refused value, or `NotConfirmed` if that value isn't found.
+/// Returns the refusal of the first refused value, or `NotConfirmed` if that value or the place of its fault
+/// isn't found.
 ///
 /// # Errors
 ///

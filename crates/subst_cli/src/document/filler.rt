@@ -21,7 +21,8 @@ use subst::{Error, Fill};
 pub(crate) struct StringFiller<'r, 'w, 'v> {
     /// The forms and names that are variables in the strings.
     pub placeholders: &'r Placeholders<'w>,
-    /// The variables, or `None` to only check strings. Then a string without faults is its own output.
+    /// The variables, or `None` to only check strings. With `None`, a string without faults is its own
+    /// output.
     pub variables: Option<&'r Variables<'v>>,
 }
 

@@ -37,7 +37,8 @@ pub enum Format {
 /// The reason why a document isn't filled in.
 #[derive(Drop)]
 pub(crate) enum Unfilled {
-    /// The text isn't a document, or the output isn't confirmed. The fault has this range and cause.
+    /// The text isn't a document, or the result for it can't be confirmed to be right. The fault has this
+    /// range and cause.
     Unread(Range<usize>, Cause),
     /// A string is refused.
     Refused,
@@ -197,7 +198,8 @@ fn with_paths<P: fmt::Display + Drop>(
     Ok(Ok(strings))
 }
 
-/// A finder, which maps ranges of a document's strings to ranges of the document. All strings share a finder.
+/// A finder, which maps ranges of a document's strings to ranges of the document. All strings of a document
+/// share one finder.
 #[derive(Drop)]
 pub(crate) enum Finder {
     Json(json::RangeFinder),
@@ -223,7 +225,7 @@ impl Finder {
     }
 
     /// Maps ascending ranges of a string to ranges of `text`, the document that the finder was created for.
-    /// If the library finds none, maps each range to `token`, the range of the string's token.
+    /// If the library doesn't find all of them, maps each range to `token`, the range of the string's token.
     ///
     /// # Errors
     ///
@@ -253,8 +255,9 @@ impl Finder {
     }
 }
 
-/// Maps ranges of a string to ranges in a TOML text, or returns `None` if they aren't found. A single range
-/// may end between a carriage return and its line feed; only `toml::place_in` finds such a range.
+/// Maps ranges of a string to ranges in a TOML text, or returns `None` if they aren't found. A range that
+/// ends between a carriage return and its line feed is found only if it is the only range. `toml::place_in`
+/// finds it, but `toml::places_in` doesn't.
 fn places_in_toml(
     alloc: Global,
     text: &str,

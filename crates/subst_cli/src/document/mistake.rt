@@ -1,4 +1,4 @@
-//! Common mistakes in JSON and TOML, recognized at the position where the reader stopped.
+//! Common mistakes in JSON and TOML, recognized by the text or by the reader's message.
 
 ghost use Rattle.std.specs.Prelude.{◌≡◌, ◌<◌, ◌↔◌, IfOk, IfSome, IsSome, IsTrue, drop, length, slice_index};
 ghost use Rattle.std.specs.Str.{IsCharBoundary};
@@ -149,7 +149,7 @@ enum Part {
     Outside,
     /// In a string.
     Inside,
-    /// In a string, after the backslash that begins an escape.
+    /// In a string, directly after the backslash that begins an escape.
     Escaped,
 }
 
@@ -211,7 +211,7 @@ enum SurrogateHalf {
     Second,
 }
 
-/// Returns the half of a surrogate pair whose escape the bytes begin with, or `None` without such an escape.
+/// Returns which half of a surrogate pair is escaped at the start of the bytes, or `None` if neither is.
 fn half_of(bytes: &[u8]) -> Option<SurrogateHalf>
     ensures { result ≡ half_at bytes.now }
 {
@@ -222,7 +222,7 @@ fn half_of(bytes: &[u8]) -> Option<SurrogateHalf>
     }
 }
 
-/// Returns whether bytes begin with `\uD` or `\ud` and, after any byte, two hexadecimal digits.
+/// Returns whether bytes begin with `\uD` or `\ud`, then any byte, then two hexadecimal digits.
 fn is_surrogate(bytes: &[u8]) -> bool
     ensures { result ≡ is_surrogate_at bytes.now }
 {
@@ -257,7 +257,8 @@ fn after_escape(bytes: &[u8]) -> &[u8]
     }
 }
 
-/// Returns whether bytes begin with the escape of half a surrogate pair without the escape of the other.
+/// Returns whether bytes begin with the escape of a lone surrogate: a second half, or a first half that no
+/// second half follows.
 fn is_lone(bytes: &[u8]) -> bool
     ensures { result ≡ is_lone_at bytes.now }
 {

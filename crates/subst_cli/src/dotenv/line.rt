@@ -231,7 +231,8 @@ fn is_name_byte(byte: u8) -> bool
     byte.is_ascii_alphanumeric() || byte == b'_'
 }
 
-/// Returns a text without `export` and the blanks after it. Without a blank, `export` is part of a name.
+/// Returns a text without a leading `export` and the blanks after it. If no blank follows, `export` is part
+/// of a name.
 fn without_export(text: &[u8]) -> &[u8]
     ensures text { result.now ≡ dotenv.without_export text.now }
     ensures shorter { length result.now ≤ length text.now }

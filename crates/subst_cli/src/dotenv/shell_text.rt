@@ -1,4 +1,4 @@
-//! Converts values of `.env` files, as they are written, into shell-style texts.
+//! Converts values, as spelled in `.env` files, into shell-style texts.
 
 ghost use Rattle.std.specs.Prelude.{◌≡◌, ◌≤◌, ◌∷◌, ◌++◌, [], false, IfOk, IfSome, OnOk, length};
 ghost use Rattle.std.specs.Option.{option_map};
@@ -116,7 +116,8 @@ fn add_byte(text: &mut Vec<u8>, quote: Quote, byte: u8, after: &[u8]) -> Result<
     Ok(())
 }
 
-/// Returns the shell-style text of two bytes, or `None` if they are neither an escape nor `$$`.
+/// Returns the shell-style text of two bytes that are an escape or, outside single quotes, `$$`. Returns
+/// `None` for other bytes.
 fn pair_text(quote: Quote, first: u8, second: u8) -> Option<&'static [u8]>
     ensures { option_map (λ v. v.now) result ≡ dotenv.pair_text quote first second }
 {
@@ -166,8 +167,8 @@ fn is_text(quote: Quote, after: &[u8]) -> bool
     }
 }
 
-/// Returns whether a byte ends a value. A quoted value ends at its closing quote, another value at a blank
-/// before a comment.
+/// Returns whether a byte ends a value. A quoted value ends at its closing quote. A value without quotes ends
+/// at a blank before a comment.
 fn closes(quote: Quote, byte: u8, after: &[u8]) -> bool
     ensures { result ≡ dotenv.closes quote byte after.now }
 {

@@ -21,7 +21,8 @@ use subst::error::NoSuchVariable;
 use subst::foreign::{AllNames, Forms, Missing, Operator, Style, TextError, TextVariable};
 use subst::{BytesMap, Error, ShellMap, VariableMap, substitute};
 
-/// The variables that a value may use: `above`, of higher precedence, and then `set`, of earlier lines.
+/// The variables that a value may use. Those in `above` have higher precedence than those in `set`, which
+/// come from earlier lines.
 #[derive(Clone, Copy)]
 pub(crate) struct Scope<'m, 'v> {
     pub above: &'m Variables<'v>,

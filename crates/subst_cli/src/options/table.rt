@@ -9,7 +9,8 @@ pub(super) struct Row {
     heading: &'static str,
     long: &'static str,
     short: Option<char>,
-    /// The value's name in the help, and its action in `clap`, or `None` if the option takes no value.
+    /// The value's name in the help and the option's action in `clap`, or `None` if the option takes no
+    /// value.
     takes: Option<(&'static str, ArgAction)>,
     help: &'static str,
     /// The options further down in the table that can't be used with this one.
@@ -32,7 +33,7 @@ impl Row {
     }
 }
 
-/// Adds the short form `short` to an option, if there is one.
+/// Adds a short form to an option, or returns the option unchanged if `short` is `None`.
 fn with_short<'a>(arg: Arg<'a>, short: Option<char>) -> Arg<'a> {
     match short {
         Some(short) => arg.short(short),

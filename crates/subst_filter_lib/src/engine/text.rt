@@ -25,9 +25,9 @@ use subst::{Error, VariableMap, substitute};
 ///
 /// - [`RunError::Read`] if the input fails.
 /// - [`RunError::NotUtf8`] if the source isn't UTF-8.
-/// - [`RunError::Subst`], with the highlighting of the fault over the source, if the source is refused.
+/// - [`RunError::Subst`], with the highlighting of the fault in the source, if the source is refused.
 /// - [`RunError::Write`] if the output fails. A prefix of the resulting text's bytes was then written.
-/// - [`RunError::OutOfMemory`] if memory runs out, even if only for the highlighting.
+/// - [`RunError::OutOfMemory`] if memory runs out, including the memory for the highlighting.
 #[tactic(auto, using(crate::proofs::FilterRunLemmas::delivered, crate::proofs::FilterRunLemmas::delivered_text, crate::proofs::FilterRunLemmas::delivered_unhighlighted, crate::proofs::FilterRunLemmas::refused_highlighted))]
 pub fn run_text<'a, I: ByteInput, O: ByteOutput, M: VariableMap<'a>>(
     alloc: Global,
@@ -60,7 +60,7 @@ where
     ensures write_fault { IsErrOf result RunError.Write → O.has_failed output.new ≡ true }
     ensures faults { IfErr result IsFaultOfText }
 
-    // A refusal has the highlighting of its fault over the source.
+    // A refusal holds the highlighting of its fault in the source.
     ensures highlighted { IfSome (I.left input.old)
         (λ source. IfErr result (HighlightsFault source)) }
 
@@ -83,8 +83,9 @@ where
     }
 }
 
-/// Converts the error `e` of an expansion of `source` into the error of a run, with the fault highlighted.
-/// Returns [`RunError::OutOfMemory`] if `e` is out of memory, or if memory runs out for the highlighting.
+/// Converts `e`, the error of an expansion of `source`, into the error of a run, with the fault highlighted.
+/// Returns [`RunError::OutOfMemory`] if `e` is [`Error::OutOfMemory`], or if memory runs out for the
+/// highlighting.
 fn highlighted_refusal(alloc: Global, e: Error, source: &str) -> RunError
     requires { IsRangeIn source.now (range_of (error_fault e)) }
     ensures refusal { IsRefusalOf e result }

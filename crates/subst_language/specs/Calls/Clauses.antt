@@ -1,7 +1,7 @@
 -- Clauses that many calls share, about a source's value, an error's fault, or a list. Three functions
--- describe a map. `items v` is the bytes of a value v. `see v` is what contracts identify v with: for a
--- reference, what it points to. `look_up name` is `see` of the value under `name`, or `None`. `fault_of e` is
--- the fault that an error e states.
+-- describe a map. `items v` is the bytes of a value v. `see v` is v as contracts see it: for a reference, the
+-- value that it points to. `look_up name` is `see` of the value under `name`, or `None`. `fault_of e` is the
+-- fault that an error e states.
 use Rattle.std.specs.Prelude.{◌≡◌, ◌≤◌, ◌<◌, ◌+◌, ℕ, List, length, map, Option, Some, Result, Vec, IfErr, IfNone, IfOk, IfSome}
 use Rattle.std.specs.List.{All, Contains}
 use Rattle.std.specs.declared.ops.Range.{Range}

@@ -5,7 +5,7 @@ use Rattle.std.specs.Prelude.{◌≡◌, ℕ, List, Option, is_some}
 use Rattle.std.specs.Option.{option_map}
 use Rattle.subst_language.specs.Language.LookUp.{LookUp}
 
--- for each value v, `bytes` maps `see v`, which v is identified with, to `items v`, the bytes of v
+-- for each value v, `bytes` maps `see v` to `items v`, the bytes of v
 abbrev pub ReadsAs : {Value Seen : Type 0} → (Value → List ℕ) → (Value → Seen) → (Seen → List ℕ) → Type 0
 ReadsAs {Value} items see bytes = (v : Value) → items v ≡ bytes (see v)
 

@@ -9,7 +9,7 @@ use Rattle.subst_language.specs.Earlier.Tree.{Tree, text}
 use Rattle.subst_language.specs.Language.Balanced.{IsBalanced, Closes}
 use Rattle.subst_language.specs.Earlier.WellFormed.{IsWellFormed}
 
--- the message that names the bytes which may follow a name in braces
+-- the message that names the bytes which may follow `${name`
 abbrev pub brace_or_colon : List ℕ
 brace_or_colon = codes "a closing brace ('}') or colon (':')"
 

@@ -32,8 +32,8 @@ abbrev pub without_expected : Fault → Fault
 without_expected (UnexpectedCharacter position character expected) = UnexpectedCharacter position character []
 without_expected f = f
 
--- s reads as before: in the earlier language it has each of its present trees too, and the same faults,
--- except for their messages
+-- s reads as before: compared with the earlier language, it has no new tree, and only the messages of its
+-- faults may differ
 pub record ReadsAsBefore (s : List ℕ) : Type 0 where
   -- each tree of s is a tree of s in the earlier language too
   pub tree : (t : Tree) → Spells t s → (u : EarlierTree) × EarlierSpells u s × (t ≡ extended u)

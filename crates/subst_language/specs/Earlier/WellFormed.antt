@@ -10,9 +10,9 @@ EndsName (Then (Plain b) rest) = ¬ (IsNameByte b)
 EndsName _ = Unit {0}
 
 abbrev mutual
-  -- An item is well-formed before the items `next`: a plain byte is neither `$` nor `\`; an escaped byte is
-  -- `\`, `$`, `{`, `}` or `:`; a name has only name bytes; no name byte follows a name without braces; a
-  -- default is well-formed, and its braces match.
+  -- An item followed by the items `next` is well-formed if these rules hold. A plain byte is neither `$` nor
+  -- `\`. An escaped byte is `\`, `$`, `{`, `}` or `:`. A name has only name bytes, and no name byte follows a
+  -- name without braces. A default is well-formed, and its braces match.
   pub IsItem : Item → Tree → Type 0
   IsItem (Plain b) next = IsPlain b
   IsItem (Escaped b) next = IsEscapable b

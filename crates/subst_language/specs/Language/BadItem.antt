@@ -9,11 +9,11 @@ use Rattle.subst_language.specs.Language.Tree.{Tree, text}
 use Rattle.subst_language.specs.Language.Balanced.{IsBalanced, Closes}
 use Rattle.subst_language.specs.Language.WellFormed.{IsWellFormed}
 
--- the message that names the bytes which may follow a name in braces
+-- the message that names the bytes which may follow `${name`
 abbrev pub after_name : List ℕ
 after_name = codes "a closing brace ('}'), colon (':') or question mark ('?')"
 
--- the message that names the byte which may follow a name and a question mark in braces
+-- the message that names the byte which may follow `${name?`
 abbrev pub after_question_mark : List ℕ
 after_question_mark = codes "a closing brace ('}')"
 

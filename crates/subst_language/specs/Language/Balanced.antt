@@ -1,9 +1,9 @@
--- Texts whose braces match, not counting a byte after a backslash.
+-- Texts whose unescaped braces match.
 use Rattle.std.specs.Prelude.{◌≡◌, ◌≢◌, ℕ, List, [], ◌∷◌, ◌++◌}
 use Rattle.subst_language.specs.Language.Bytes.{backslash, opening_brace, closing_brace}
 
--- A balanced text is empty, or one of these and then a balanced text: a byte that is no backslash and no
--- brace; a backslash and any byte; a balanced text in braces.
+-- A balanced text is empty, or has one of three beginnings and then a balanced text. The beginnings are a
+-- byte that is no backslash and no brace; a backslash and any byte; and a balanced text in braces.
 pub data IsBalanced : List ℕ → Type 0 where
   empty : IsBalanced []
   byte : {b : ℕ} {x : List ℕ} → b ≢ backslash → b ≢ opening_brace → b ≢ closing_brace → IsBalanced x

@@ -9,7 +9,7 @@ dollar = 36
 abbrev pub colon : ℕ
 colon = 58
 
--- `?` after a name in braces marks an optional variable
+-- `?` marks an optional variable, as in `${name?}`
 abbrev pub question_mark : ℕ
 question_mark = 63
 

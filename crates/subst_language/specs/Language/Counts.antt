@@ -14,9 +14,9 @@ if_missing (Some x) n = 0
 if_missing None n = n
 
 abbrev mutual
-  -- The number of an item's parts that an expansion visits; `after_plain` is whether the item before this one
-  -- is plain. A run of plain items is one part, counted at its first item. A default is one part, plus the
-  -- visited parts of its tree if its name has no value. Any other item is one part.
+  -- The number of an item's parts that an expansion visits. `after_plain` is true if a plain item precedes
+  -- the item. A run of plain items is one part, counted at its first item. An item with a default is one
+  -- part, plus the default's visited parts if the name has no value. Any other item is one part.
   pub item_visited_count : (after_plain : Bool) → Item → LookUp → ℕ
   item_visited_count after_plain (Plain b) look = if after_plain then 0 else 1
   item_visited_count after_plain (Escaped b) look = 1

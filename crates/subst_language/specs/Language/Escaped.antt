@@ -6,7 +6,7 @@ use Rattle.subst_language.specs.Language.Bytes.{dollar, colon, backslash, openin
 abbrev pub is_special : ℕ → Bool
 is_special b = b == backslash || b == dollar || b == opening_brace || b == closing_brace || b == colon
 
--- the byte, after a backslash if it is special
+-- the byte, with a backslash before it if it is special
 abbrev pub escaped_byte : ℕ → List ℕ
 escaped_byte b = if is_special b then backslash ∷ b ∷ [] else b ∷ []
 

@@ -6,14 +6,14 @@ use Rattle.subst_language.specs.Language.Tree.{Tree}
 use Rattle.subst_language.specs.Language.Sentence.{Spells, IsSentence}
 use Rattle.subst_language.specs.Language.BadItem.{HasFault}
 
--- s is a sentence with one tree, or has one fault for each position p at which it may begin, and never both
+-- s is a sentence with one tree, or s has one fault for each position p at which s may begin; never both
 pub record OneTreeOrOneFault (s : List ℕ) : Type 0 where
   pub either : ((t : Tree) × Spells t s) ⊎ ((p : ℕ) → (f : Fault) × HasFault p s f)
   pub tree_unique : (t u : Tree) → Spells t s → Spells u s → t ≡ u
   pub fault_unique : (p : ℕ) (f g : Fault) → HasFault p s f → HasFault p s g → f ≡ g
   pub never_both : (t : Tree) (p : ℕ) (f : Fault) → Spells t s → ¬ (HasFault p s f)
 
--- the text s at position p is a sentence, then `${` with the brace at `position`, and then any bytes
+-- the text s at position p consists of a sentence, then `${` with the brace at `position`, then any bytes
 pub record OpensAt (p : ℕ) (s : List ℕ) (position : ℕ) : Type 0 where
   pub before : List ℕ
   pub after : List ℕ
@@ -21,7 +21,7 @@ pub record OpensAt (p : ℕ) (s : List ℕ) (position : ℕ) : Type 0 where
   pub parts : s ≡ before ++ dollar ∷ opening_brace ∷ after
   pub brace : position ≡ p + length before + 1
 
--- this fault of a text that ends at position `end` remains, whatever is appended
+-- the fault of a text that ends at position `end` remains, whatever is appended to the text
 abbrev pub IsSettled : (end : ℕ) → Fault → Type 0
 IsSettled end (InvalidEscapeSequence position (Some character)) = Unit {0}
 IsSettled end (InvalidEscapeSequence position None) = ⊥

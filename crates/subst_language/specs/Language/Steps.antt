@@ -20,7 +20,7 @@ steps_value (Own b ∷ rest) = joined (Bytes (b ∷ [])) (steps_value rest)
 steps_value (Given x ∷ rest) = joined (Bytes x) (steps_value rest)
 steps_value (Lacks position name ∷ rest) = Missing position name
 
--- one step with the value that was found, or else these steps
+-- one step with the value that was found, or else the list `steps`
 abbrev pub given_or : Option (List ℕ) → List Step → List Step
 given_or (Some x) steps = Given x ∷ []
 given_or None steps = steps

@@ -21,7 +21,7 @@ found_or None v = v
 
 abbrev mutual
   -- The value of an item whose text begins at position p. The value of a byte is the byte, and that of a
-  -- variable is what the look-up has for its name. If the look-up has none, an optional variable is empty, a
+  -- variable is the look-up's value for its name. If the look-up has none, an optional variable is empty, a
   -- variable with a default has the default's value, and any other variable is missing.
   pub item_value : ℕ → Item → LookUp → Value
   item_value p (Plain b) look = Bytes (b ∷ [])

@@ -57,7 +57,7 @@ abbrev pub lacked : Step → Option Variable
 lacked (Lacks position name) = Some (required position name)
 lacked step = None
 
--- the variables of a tree that are needed but have no value, in the order of its text, which begins at
--- position p. Variables in an unused default aren't needed
+-- the missing variables of a tree whose text begins at position p, in the order of the text: those that are
+-- needed but have no value. Variables in an unused default aren't needed
 abbrev pub all_missing : ℕ → Tree → LookUp → List Variable
 all_missing p t look = filter_map lacked (steps_of p t look)

@@ -56,7 +56,7 @@ abbrev pub if_found : Option (List ℕ) → ℕ → ℕ
 if_found (Some x) next = next
 if_found None next = 0
 
--- the index at which an expansion resumes after a default whose name has a value; after any other part 0
+-- the index at which an expansion resumes after a default whose name has a value; 0 after any other part
 abbrev pub resume_index : Part → List ℕ → LookUp → ℕ
 resume_index (Default name next) s look = if_found (look (span_bytes name s)) next
 resume_index _ s look = 0
@@ -80,8 +80,8 @@ parts_value parts s look = steps_value (parts_steps parts s look)
 abbrev pub parts_written : List Part → List ℕ → LookUp → List ℕ
 parts_written parts s look = steps_written (parts_steps parts s look)
 
--- the kind of a variable that isn't required, from the text after its name: optional if the text begins with
--- `?`, else with a default
+-- the kind of a variable that isn't required: `OrNothing` if the text after its name begins with `?`, else
+-- `OrDefault`
 abbrev pub kind_before : List ℕ → Kind
 kind_before [] = variables.OrDefault
 kind_before (b ∷ rest) = if b == question_mark then variables.OrNothing else variables.OrDefault
@@ -98,7 +98,7 @@ abbrev pub variables_in : List Part → List ℕ → List variables.Variable
 variables_in [] s = []
 variables_in (part ∷ rest) s = part_variables part s ++ variables_in rest s
 
--- the variable that a part needs and the look-up has no value for, as a list of one, or no variable
+-- the variable that a part needs but the look-up lacks, as a list of one; the empty list if there is none
 abbrev pub part_missing : Part → List ℕ → LookUp → List variables.Variable
 part_missing (Variable name) s look = filter_map lacked (part_steps (Variable name) s look)
 part_missing part s look = []
@@ -117,8 +117,8 @@ next_index part s look after = after
 abbrev pub parts_missing : List Part → List ℕ → LookUp → List variables.Variable
 parts_missing parts s look = filter_map lacked (parts_steps parts s look)
 
--- The parts mean the tree t: they have the variables of t and, under each look-up, its steps and its number
--- of visited parts. The first part has index i, and the tree's text begins at position p of the source s.
+-- The parts mean the tree t: they have the variables of t and, under each look-up, the steps of t and as many
+-- visited parts as t. The first part has index i, and the tree's text begins at position p of the source s.
 pub record PartsMean (s : List ℕ) (i : ℕ) (parts : List Part) (p : ℕ) (t : Tree) : Type 0 where
   pub fit : AllFit i (i + length parts) s parts
   pub same_steps : (look : LookUp) → steps_in (visited_parts parts i 0 s look) s look ≡ steps_of p t look

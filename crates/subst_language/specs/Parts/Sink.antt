@@ -6,7 +6,7 @@ use Rattle.subst_language.specs.declared.part.Span.{Span}
 use Rattle.subst_language.specs.declared.part.Part.{Part}
 use Rattle.subst_language.specs.declared.part.Part.TheVariants.{Literal, Escaped, Variable, Default}
 
--- the relation of a sink, its first state and the parts that it holds
+-- the type of relations between a sink, its first state and the parts that the sink holds
 abbrev pub HoldsFrom : (S First : Type 0) → Type 1
 HoldsFrom S First = S → First → List Part → Type 0
 

@@ -5,7 +5,8 @@ ghost use Rattle.std.specs.Prelude.{◌≡◌};
 use crate::{BytesMap, VariableMap};
 use std::marker::Model;
 
-/// Pairs of names and values, like those of an environment. The first pair of a name wins.
+/// Pairs of names and values, like those of an environment. Of several pairs with the same name, the first
+/// takes precedence.
 ///
 /// Contracts see an `Env` as the list of its pairs, in order.
 #[derive(Debug, Drop)]

@@ -13,8 +13,8 @@ use std::convert::{AsSlice, AsStr};
 use std::hash::BuildHasher;
 
 /// The law of maps of bytes. Contracts identify each value of a map with something that has the same bytes.
-/// This holds for each standard map whose values can be borrowed as bytes, for `Env`, and for
-/// `NoSubstitution`, which has no values.
+/// This holds for `Env`, for `NoSubstitution`, which has no values, and for each `BTreeMap`, `HashMap` or
+/// `IndexMap` whose values can be borrowed as bytes.
 pub fn maps_are_look_ups<'a, 'k, V: AsSlice<u8> + 'a, S: BuildHasher>()
     ensures btree_map { ReadsAs ⟦<&'a V as AsSlice<u8>>⟧.items
         ⟦<BTreeMap<String, V> as VariableMap<'a>>⟧.see V.items }
@@ -35,8 +35,8 @@ pub fn maps_are_look_ups<'a, 'k, V: AsSlice<u8> + 'a, S: BuildHasher>()
 {}
 
 /// The law of maps of texts. Contracts identify each value of a map with something that has the same text.
-/// This holds for each standard map whose values can be borrowed as texts, and for `Env` and
-/// `NoSubstitution`.
+/// This holds for `Env`, for `NoSubstitution`, and for each `BTreeMap`, `HashMap` or `IndexMap` whose values
+/// can be borrowed as texts.
 pub fn maps_are_look_ups_of_texts<'a, 'k, V: AsStr + 'a, S: BuildHasher>()
     ensures btree_map { ReadsAs ⟦<&'a V as AsStr>⟧.text
         ⟦<BTreeMap<String, V> as VariableMap<'a>>⟧.see V.text }
@@ -56,8 +56,8 @@ pub fn maps_are_look_ups_of_texts<'a, 'k, V: AsStr + 'a, S: BuildHasher>()
         ⟦<Env as VariableMap<'a>>⟧.see (λ bytes. bytes) }
 {}
 
-/// The law of two maps of bytes in layers. If each map is a look-up of bytes, so is their [`Layered`]. The
-/// bytes for a name are those of the first map's value, or else of the second's.
+/// The law of two maps of bytes in layers. If both maps are look-ups of bytes, so is their [`Layered`] map.
+/// The bytes for a name are those of the first map's value, or else of the second's.
 pub fn layers_are_look_ups<'a, M: VariableMap<'a> + 'a, N: VariableMap<'a> + 'a>()
 where
     M::Value: AsSlice<u8>,
