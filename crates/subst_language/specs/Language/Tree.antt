@@ -1,7 +1,9 @@
--- The syntax trees of the template language, and the text of each. The grammar in EBNF, under the condition
--- that the braces in a `default` match: template = { item } ; item     = plain | "\" special | "$" name |
--- "${" name "}" | "${" name "?}" | "${" name ":" default "}" ; default  = template ; name     = name byte, {
--- name byte } ;
+-- The syntax trees of the template language, and the text of each. In EBNF, where braces in a `default` match:
+--   template = { item } ;
+--   item     = plain | "\" special | "$" name | "${" name "}" | "${" name "?}"
+--            | "${" name ":" default "}" ;
+--   default  = template ;
+--   name     = name byte, { name byte } ;
 use Rattle.std.specs.Prelude.{ℕ, List, [], ◌∷◌, ◌++◌}
 use Rattle.subst_language.specs.Language.Bytes.{dollar, colon, question_mark, backslash, opening_brace, closing_brace}
 
