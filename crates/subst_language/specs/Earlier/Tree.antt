@@ -1,4 +1,4 @@
--- The syntax trees of the earlier language, and the text of each. In EBNF, where braces in a `default` match:
+-- Syntax trees of the earlier language, and the text of each. In EBNF, where braces in a `default` match:
 --   template = { item } ;
 --   item     = plain | "\" special | "$" name | "${" name "}" | "${" name ":" default "}" ;
 --   default  = template ;
