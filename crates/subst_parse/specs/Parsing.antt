@@ -71,13 +71,14 @@ StackHolds pending s (default ∷ defaults) depth parts literal_start at =
     IsOpenDefault pending s default depth parts literal_start at
     (λ before position. StackHolds false s defaults default.depth before position position)
 
--- `StackHolds` after a flush, when the parts of the innermost text may end in plain bytes
+-- `StackHolds` after a flush: `pending` is false, since the parts so far may end in plain bytes
 abbrev pub StackHoldsFlushed : List ℕ → List OpenDefault → ℕ → List Part → ℕ → ℕ → Type 0
 StackHoldsFlushed s defaults depth parts literal_start at =
     StackHolds false s defaults depth parts literal_start at
 
--- The invariant of the parser between items. Its sink holds the parts so far, whose offsets and indexes are
--- below the limit. Each part is of at least one byte, so no index is above the source's length.
+-- The invariant of the parser between items. The parser's sink holds the parts so far, whose offsets and
+-- indexes are below the limit. Each part covers at least one byte of the source, so no index is above the
+-- source's length.
 pub record IsReading {S : Type 0} (holds : S → List Part → Type 0) (limit : ℕ) (parser : Parser S)
     : Type 0 where
   pub parts : List Part
@@ -124,8 +125,8 @@ FromReading {First = First} holds limit old Q =
 abbrev pub ReadsOn : {S First : Type 0} → HoldsFrom S First → ℕ → Parser S → Parser S → Type 0
 ReadsOn holds limit old new = FromReading holds limit old (λ first. IsReading (since holds first) limit new)
 
--- One step of the parser: it advances, or returns the source's fault, or runs out of memory. If the sink
--- never allocates, memory runs out only if the source has a colon.
+-- One step of the parser: it advances, or returns the source's fault, or runs out of memory. With a sink that
+-- never allocates, only open defaults take memory, so memory runs out only if the source has a colon.
 abbrev pub StepsOrFails : {S First : Type 0} → HoldsFrom S First → ℕ → (asks : Type 0) → Parser S
     → Result (Unit {0}) Halt → Parser S → Type 0
 StepsOrFails holds limit asks old (Ok _) new =

@@ -1,4 +1,4 @@
--- The escape or placeholder at a position of a source, or its fault.
+-- The escape, placeholder or bad item at a position of a source.
 use Rattle.std.specs.Prelude.{◌≡◌, ℕ, ◌+◌, List, ◌∷◌, ◌++◌, length, drop, IsSomeAnd}
 use Rattle.subst_error.specs.Fault.{Fault}
 use Rattle.subst_language.specs.Language.Bytes.{dollar, colon, question_mark, backslash, opening_brace, closing_brace, IsEscapable}
@@ -11,7 +11,7 @@ use Rattle.subst_parse.specs.declared.halt.Halt.{Halt}
 use Rattle.subst_parse.specs.declared.item.Placeholder.{Placeholder}
 use Rattle.subst_parse.specs.declared.item.Placeholder.TheVariants.{Short, Braced, Optional, Default}
 
--- the source s has an escape of the byte b at position `at`
+-- at position `at`, the source s has an escape of the byte b
 pub record IsEscape (s : List ℕ) (at b : ℕ) : Type 0 where
   pub special : IsEscapable b
   pub spelled : drop at s ≡ backslash ∷ b ∷ drop (at + 2) s
@@ -22,20 +22,20 @@ pub record IsNameAt (s : List ℕ) (name : Span) : Type 0 where
   pub valid : IsName (span_bytes name s)
   pub ends : name.end ≡ name.start + length (span_bytes name s)
 
--- the source s has a dollar and then this name at position `at`, and no name byte after it
+-- at position `at`, the source s has a dollar and then the name, and no name byte after the name
 pub record IsShort (s : List ℕ) (at : ℕ) (name : Span) : Type 0 where
   pub named : IsNameAt s name
   pub starts : name.start ≡ at + 1
   pub spelled : drop at s ≡ dollar ∷ span_bytes name s ++ drop name.end s
   pub longest : BeginsWithNo IsNameByte (drop name.end s)
 
--- the source s has a dollar, an opening brace, this name and the byte b at position `at`
+-- at position `at`, the source s has a dollar, an opening brace, the name and the byte b, in this order
 pub record IsInBraces (s : List ℕ) (at : ℕ) (name : Span) (b : ℕ) : Type 0 where
   pub named : IsNameAt s name
   pub starts : name.start ≡ at + 2
   pub spelled : drop at s ≡ dollar ∷ opening_brace ∷ span_bytes name s ++ b ∷ drop (name.end + 1) s
 
--- the source s has the placeholder `${name?}` with this name at position `at`
+-- at position `at`, the source s has the placeholder `${name?}` with this name
 pub record IsOptional (s : List ℕ) (at : ℕ) (name : Span) : Type 0 where
   pub head : IsInBraces s at name question_mark
   pub closed : drop (name.end + 1) s ≡ closing_brace ∷ drop (name.end + 2) s
@@ -53,7 +53,7 @@ pub record IsBadWhenCut (p : ℕ) (r : List ℕ) (f : Fault) : Type 0 where
   pub bad : IsBad p r f
   pub cut : (x q : List ℕ) → r ≡ x ++ closing_brace ∷ q → IsBad p x f
 
--- the error states the fault that the bad item at position `at` of the source s has, wherever a default
--- around the item ends
+-- the error states the fault of the bad item at position `at` of the source s. This fault doesn't depend on
+-- where a default around the item ends
 abbrev pub StatesBadItem : Halt → List ℕ → ℕ → Type 0
 StatesBadItem e s at = IsSomeAnd (halt_fault e) (IsBadWhenCut at (drop at s))

@@ -43,7 +43,8 @@ pub(crate) trait ByteClass {
 
 /// A class that tests 32 bytes at a time.
 pub(crate) trait VectorClass: ByteClass {
-    /// Returns a vector in which a lane's top bit is set if and only if its byte isn't in the class.
+    /// Returns a vector in which a lane's top bit is set if and only if the lane's byte in `bytes` isn't in
+    /// the class.
     fn outside(bytes: u8x32) -> u8x32
         ensures { HasOutside Self.is_in bytes result };
 }

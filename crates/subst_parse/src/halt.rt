@@ -1,4 +1,4 @@
-//! The reasons to stop parsing with an error, without messages. A reason converts into a `ParseError` that
+//! The reasons to stop parsing with an error. A reason has no message, and converts into a `ParseError` that
 //! states the same fault.
 
 ghost use Rattle.std.specs.Prelude.{◌≡◌, ◌≤◌, Some, None, length};
@@ -20,8 +20,8 @@ const AFTER_NAME: &str = "a closing brace ('}'), colon (':') or question mark ('
 /// The message of what is expected after a question mark.
 const AFTER_QUESTION_MARK: &str = "a closing brace ('}')";
 
-/// A reason to stop parsing with an error: a `ParseError` without its message. It is small, since each step
-/// of the parser returns a `Result<(), Halt>`.
+/// A reason to stop parsing with an error: a `ParseError` without its message. It is kept small, because each
+/// step of the parser returns a `Result<(), Halt>`.
 #[derive(Clone, Copy)]
 pub(crate) enum Halt {
     /// A backslash at the end of the source.

@@ -64,7 +64,8 @@ pub(crate) fn placeholder_at(tape: &mut Tape<'_>, at: usize) -> Result<Placehold
     }
 }
 
-/// Returns the placeholder `$name` at `at`, or the fault of a missing name. No `{` follows the dollar.
+/// Returns the placeholder `$name` at `at`, or the fault of a missing name. The source must have no `{` after
+/// the dollar.
 #[inline(always)]
 fn short_at(tape: &mut Tape<'_>, at: usize) -> Result<Placeholder, Halt>
     requires dollar { drop at tape.old.source.now ≡ dollar ∷ drop (at + 1) tape.old.source.now }

@@ -132,7 +132,8 @@ impl<'s, S: Sink> Parser<'s, S> {
         self.finish()
     }
 
-    /// Reads plain bytes, and then an escape, a placeholder, or a brace inside a default.
+    /// Reads plain bytes, and then an escape or a placeholder. Inside a default, a brace may follow the plain
+    /// bytes instead.
     #[inline(always)]
     fn read_item(&mut self) -> Result<(), Halt>
         requires reading { IsReadingSince S.holds S.source S.limit self.old }
@@ -155,7 +156,7 @@ impl<'s, S: Sink> Parser<'s, S> {
         self.depth == 0
     }
 
-    /// Reads plain bytes, and the escape or placeholder after them. No brace is open.
+    /// Reads plain bytes, and the escape or placeholder after them, outside all defaults.
     #[inline(always)]
     fn read_at_top(&mut self) -> Result<(), Halt>
         requires reading { IsReadingSince S.holds S.source S.limit self.old }

@@ -7,8 +7,8 @@ use subst_language::Counter;
 
 /// The number of reads of a parse.
 ///
-/// One read is one byte of the source, or the end of the source, that the parser looks at by offset or in a
-/// search.
+/// One read is one look at a byte of the source, or at the end of the source. The parser looks by offset or
+/// in a search.
 #[derive(Drop)]
 pub struct Reads {
     counter: Counter,

@@ -193,7 +193,7 @@ fn load(source: &[u8], at: usize) -> u8x32
     u8x32::from_slice(&source[at..])
 }
 
-/// Returns a mask of the top bits of the lanes, in which the first lane has the lowest bit.
+/// Returns a mask of the top bits of the lanes. The lowest bit of the mask is that of the first lane.
 #[inline(always)]
 fn top_bits(lanes: u8x32) -> u64
     ensures { (k : ℕ) → (bit_at result k ≡ 1) ↔ (128 ≤ slice_index lanes k) }

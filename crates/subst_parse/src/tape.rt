@@ -1,6 +1,6 @@
 //! The functions by which the parser sees the source: the byte at an offset, three searches, and the
-//! character at an offset. The contract of each of these functions states the result, in terms of the rest of
-//! the source, and the number of reads.
+//! character at an offset. The contract of each of these functions states the number of reads, and the result
+//! in terms of the rest of the source.
 
 ghost use Rattle.std.specs.Prelude.{◌≡◌, ◌+◌, ◌-◌, ◌<◌, ◌≤◌, [], ◌∷◌, length, drop, min, IsSome, IsTrue, ◌↔◌, MatchOption};
 ghost use Rattle.subst_language.specs.Language.Bytes.{IsPlain};

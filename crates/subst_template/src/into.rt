@@ -30,8 +30,8 @@ use subst_parse::plain_len;
 /// source. The items of `output` are then unchanged.
 ///
 /// - `Parse(OutOfMemory)` only if the source has a colon: open defaults are kept in memory.
-/// - `Expand(OutOfMemory)` only if the spare capacity of `output` is less than the bytes written: all, or
-///   those before the missing variable.
+/// - `Expand(OutOfMemory)` only if the spare capacity of `output` is too small for the bytes to write: the
+///   whole output, or the bytes before the missing variable.
 pub fn substitute_bytes_into<'s, 'a, M: VariableMap<'a>>(
     alloc: Global,
     source: &'s [u8],
@@ -49,8 +49,8 @@ where
     ensures kept { OnErr result (output.new.items ≡ output.old.items) }
     ensures capacity { vec_capacity output.old ≤ vec_capacity output.new }
 
-    // The parse runs out of memory only if the source has a colon. After the parse, memory runs out only if
-    // the spare capacity is less than the bytes written.
+    // The parse runs out of memory only if the source has a colon. The expansion runs out of memory only if
+    // the spare capacity is too small for the bytes that it has to write.
     ensures cause { NeedsMemory source.now result }
     ensures full { ByWritten M.Value.items M.see (M.look_up variables.now) source.now
         (OverflowsParsed (vec_capacity output.old) (vec_len output.old) result) }
@@ -96,8 +96,8 @@ where
     ensures kept { OnErr result (string_bytes output.new ≡ string_bytes output.old) }
     ensures capacity { string_capacity output.old ≤ string_capacity output.new }
 
-    // The parse runs out of memory only if the source has a colon. After the parse, memory runs out only if
-    // the spare capacity is less than the bytes written.
+    // The parse runs out of memory only if the source has a colon. The expansion runs out of memory only if
+    // the spare capacity is too small for the bytes that it has to write.
     ensures cause { NeedsMemory source.now result }
     ensures full { ByWritten M.Value.text M.see (M.look_up variables.now) source.now
         (OverflowsParsed (string_capacity output.old) (string_len output.old) result) }

@@ -1,5 +1,5 @@
-//! Templates over byte strings and texts, and `substitute_bytes` and `substitute`, which parse and expand a
-//! source in one pass.
+//! Templates over byte strings and texts. `substitute_bytes` and `substitute` parse and expand a source in
+//! one pass.
 //!
 //! `subst` re-exports all public items of this crate, and describes the language.
 #![tactic(auto)]

@@ -32,8 +32,8 @@ use subst_parse::{Reads, parse_into};
 /// # Errors
 ///
 /// The fault of the source if it is no sentence. Otherwise `NoSuchVariable` for the first needed name that
-/// `variables` has no value for. Or out of memory, only as the clauses `full` and `cause` state. The items of
-/// `output` are then unchanged.
+/// `variables` has no value for. Out of memory only if the clauses `full` and `cause` allow it. After any
+/// error, the items of `output` are unchanged.
 pub(crate) fn substitute_into<'s, 'a, M: VariableMap<'a>, R: ReadValue<M::Value>>(
     alloc: Global,
     source: &'s [u8],
@@ -49,8 +49,8 @@ where
     ensures kept { OnErr result (output.new.items ≡ output.old.items) }
     ensures capacity { vec_capacity output.old ≤ vec_capacity output.new }
 
-    // The parse runs out of memory only if the source has a colon. After the parse, memory runs out only if
-    // the spare capacity is less than the bytes written.
+    // The parse runs out of memory only if the source has a colon. The expansion runs out of memory only if
+    // the spare capacity is too small for the bytes that it has to write.
     ensures full { ByLookUp R.read M.see (M.look_up variables.now)
         (λ look. ByTree source.now (λ t. IfRefused result (λ e. Unit {0})
         (λ e. IfNone (expand_into_fault e)
@@ -72,8 +72,9 @@ where
     Ok(expand_in_one_pass::<M, R>(alloc, source, plain, variables, output)??)
 }
 
-/// Returns the output of a source, with the values of `variables` as `R` reads them. The initial capacity is
-/// the length of the source and `extra` more bytes. The first `plain` bytes have no `$` and no `\`.
+/// Returns the output of a source, with the values of `variables` as `R` reads them. The output's initial
+/// capacity is the length of the source plus `extra` bytes. The first `plain` bytes of the source must have
+/// no `$` and no `\`.
 ///
 /// # Errors
 ///
@@ -175,9 +176,12 @@ where
 ///
 /// # Errors
 ///
-/// The outer result is that of the parse: the source's fault if it is no sentence, or out of memory if it has
-/// a colon. The inner result is that of the expansion: `NoSuchVariable` for the first needed name without a
-/// value, or out of memory if the capacity is too small. The items of `output` are then unchanged.
+/// The outer error is that of the parse: the source's fault if it is no sentence, or out of memory. The parse
+/// runs out of memory only if the source has a colon.
+///
+/// The inner error is that of the expansion: `NoSuchVariable` for the first needed name without a value, or
+/// out of memory. The expansion runs out of memory only if the capacity of `output` is too small. After
+/// either error, the items of `output` are unchanged.
 fn expand_in_one_pass<'s, 'a, M: VariableMap<'a>, R: ReadValue<M::Value>>(
     alloc: Global,
     source: &'s [u8],

@@ -30,7 +30,7 @@ pub(crate) fn parse(alloc: Global, source: &[u8], reads: &mut Reads) -> Result<P
     ensures refused { IfErr result (λ e. reads.old + 1 ≤ reads.new) }
     ensures range { IfErr result (λ e. (range_of (parse_fault e)).end ≤ length source.now) }
 {
-    // No offset and no index of a part is past the end of the source.
+    // No offset and no index of a part is greater than the length of the source.
     if source.len() <= u32::MAX as usize {
         Ok(parse_packed::<u32>(alloc, source, reads)?.into())
     } else {

@@ -1,4 +1,4 @@
-//! Answers as texts: `gives Hello world!`, or a fault by its range and kind, such as `6..7:
+//! Answers as texts: `gives Hello world!`, or the range and kind of a fault, such as `6..7:
 //! MissingVariableName`.
 
 use std::alloc::{AllocError, Global};
@@ -49,7 +49,7 @@ pub fn fault_text(alloc: Global, fault: &Error) -> Result<String, AllocError> {
     format!(in alloc; "{start}..{end}: {kind}")
 }
 
-/// Returns the result of a call that expands a text: `gives` and the output, or the fault as a text.
+/// Formats the result of expanding a text: `gives` and the output, or the fault as a text.
 pub fn text_or_fault(alloc: Global, filled: Result<String, Error>) -> Result<String, AllocError> {
     match filled {
         Ok(text) => format!(in alloc; "gives {text}"),
@@ -57,7 +57,7 @@ pub fn text_or_fault(alloc: Global, filled: Result<String, Error>) -> Result<Str
     }
 }
 
-/// Returns the result of a call that expands bytes: `gives` and the output, or the fault as a text.
+/// Formats the result of expanding bytes: `gives` and the output, or the fault as a text.
 pub fn bytes_or_fault(alloc: Global, filled: Result<Vec<u8>, Error>) -> Result<String, AllocError> {
     match filled {
         Ok(bytes) => output_text(alloc, bytes.as_slice()),

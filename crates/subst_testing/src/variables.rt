@@ -22,8 +22,8 @@ pub fn owned_pairs(
     Ok(pairs)
 }
 
-/// Returns a map of the variables in `pairs`. A part without `=` is left out; if a name has several values,
-/// the last one wins.
+/// Returns a map of the variables in `pairs`, such as `a=1,b=2`. A piece between commas is left out if it has
+/// no `=`. If a name has several values, the last one wins.
 pub fn texts<'a>(alloc: Global, pairs: &'a str) -> Result<Texts<'a>, AllocError> {
     let mut variables = BTreeMap::new(alloc);
     for pair in pairs.split(',') {

@@ -22,7 +22,7 @@ const SOURCE: &str = "Hello $name!";
 
 const DEFAULT: &[u8] = b"Hello ${name:world}!";
 
-/// Returns a map with the variable `name`.
+/// Returns a map in which the variable `name` has the value `value`.
 fn named<V: Drop>(alloc: Global, value: V) -> Result<BTreeMap<String, V>, AllocError> {
     let mut variables = BTreeMap::new(alloc);
     let _ = variables.insert(String::from_str(alloc, "name")?, value)?;

@@ -4,7 +4,7 @@ use std::alloc::{AllocError, Global};
 use std::fmt::Display;
 use subst::{NoSubstitution, json, toml as filled};
 
-/// Returns whether an error has this text.
+/// Returns whether the text of an error is `want`.
 fn displays_as<E: Display>(alloc: Global, error: &E, want: String) -> Result<bool, AllocError> {
     Ok(error.to_string(alloc)? == want)
 }

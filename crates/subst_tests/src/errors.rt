@@ -245,13 +245,13 @@ fn is_equal(alloc: Global, position: usize, name: &str) -> Result<bool, AllocErr
     is_clone_equal(absent(alloc, 8, "name")?, absent(alloc, position, name)?)
 }
 
-/// Returns the result of `is_equal`, with each missing variable as an `ExpandError`.
+/// Compares as `is_equal` does, after each missing variable is converted into an `ExpandError`.
 fn is_equal_in_expansion(alloc: Global, position: usize, name: &str) -> Result<bool, AllocError> {
     let one = ExpandError::from(absent(alloc, 8, "name")?);
     is_clone_equal(one, ExpandError::from(absent(alloc, position, name)?))
 }
 
-/// Returns the result of `is_equal`, with each missing variable as an `Error`.
+/// Compares as `is_equal` does, after each missing variable is converted into an `Error`.
 fn is_equal_as_error(alloc: Global, position: usize, name: &str) -> Result<bool, AllocError> {
     let one = Error::from(absent(alloc, 8, "name")?);
     is_clone_equal(one, Error::from(absent(alloc, position, name)?))

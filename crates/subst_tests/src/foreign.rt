@@ -28,7 +28,7 @@ const OF_ENVSUBST: [Row<'static>; 9] = [
     ("${a}}$a}${${a}}", "${a}}$a}\\${${a}}", "1}1}${1}"),
 ];
 
-/// Names, and the row of a text in which only these names are variables.
+/// Chosen names, and the row of a text in which no other name is a variable.
 const WITH_ONLY: [(&[&str], Row<'static>); 5] = [
     (&[], ("$a \\", "\\$a \\\\", "$a \\")),
     (
@@ -120,7 +120,8 @@ const OF_FORMS: [(Forms, Missing, Row<'static>); 10] = [
     (Forms::Common, Missing::Nothing, ("", "", "")),
 ];
 
-/// Texts in several forms. The variables are the names with a value, and all names with an operator.
+/// Texts in several forms. A name is a variable if `VARIABLES` has a value for it, or if an operator follows
+/// it.
 const OF_KNOWN: [(Forms, Row<'static>); 3] = [
     (Forms::Own, ("$a $x ${x:d}", "$a \\$x ${x:d}", "1 $x d")),
     (Forms::Envsubst, ("$a:${x}", "$a:\\${x}", "1:${x}")),
@@ -188,7 +189,7 @@ fn of_all(forms: Forms, missing: Missing) -> Style<'static, AllNames> {
     }
 }
 
-/// Returns the output, with `VARIABLES`, of a template for a text of these forms.
+/// Fills `VARIABLES` into the template for a text in `forms`.
 fn filled(alloc: Global, forms: Forms, template: &str) -> Result<String, Error> {
     let map = texts(alloc, VARIABLES)?;
     match forms {
@@ -198,7 +199,7 @@ fn filled(alloc: Global, forms: Forms, template: &str) -> Result<String, Error> 
     }
 }
 
-/// Returns the output, with `VARIABLES`, of a byte template for a text of these forms.
+/// Fills `VARIABLES` into the byte template for a text in `forms`.
 fn filled_bytes(alloc: Global, forms: Forms, template: &[u8]) -> Result<Vec<u8>, Error> {
     let map = byte_values(alloc, VARIABLES)?;
     match forms {
@@ -208,8 +209,8 @@ fn filled_bytes(alloc: Global, forms: Forms, template: &[u8]) -> Result<Vec<u8>,
     }
 }
 
-/// Expects that the text of `row` has the row's template and output, as a text and as bytes. No form in the
-/// text may be refused.
+/// Expects that the text of `row` has the row's template and output, as a text and as bytes. Also expects
+/// that no form in the text is refused.
 fn expect_row<N: Names>(rt: &impl Testing, style: Style<'_, N>, row: Row<'_>) {
     let (text, template, given) = row;
     let (bytes, alloc) = (text.as_bytes(), rt.alloc());

@@ -10,7 +10,7 @@ use subst::{NoSubstitution, json, toml as filled};
 const JSON: &str =
     "{\"b\":[1,\"x\",{\"k\":\"$M\"},\"$\"],\"a\":\"$N\", \"b\":\"\\u00e9${\",\"\":\"\"}";
 
-/// A document with a string in a table of an array, and one after a dotted key.
+/// A document with strings in a table of an array, one of them under a dotted key.
 const TOML: &str =
     "k = '$' # '$'\n[[t]]\n[[t]]\n\"$\" = [1, {a.b = '''$$''', c = '3'}]\n[t.u]\nx = '0'\ny='${'\n";
 

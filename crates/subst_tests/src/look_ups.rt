@@ -1,5 +1,5 @@
-//! Lookups, recorded by a map: each variable that a call reaches is looked up once, in order. Calls without a
-//! template also look up the names before a fault.
+//! Look-ups, recorded by a map: the name of each placeholder that a call reaches is looked up once, in order.
+//! If a source has a fault, calls without a template also look up the names before the fault.
 //!
 //! No contract states how often `get` is called, or with which names.
 
@@ -82,8 +82,8 @@ fn names_by_output(alloc: Global, source: &str) -> u64 {
     variables.names.get()
 }
 
-/// Returns the names that a template has looked up, as digits: after it is parsed, and after it is also
-/// expanded.
+/// Returns the names looked up by parsing a template, and those by parsing and expanding it, as the digits of
+/// two numbers.
 fn names_by_template(alloc: Global, source: &str) -> (u64, u64) {
     let variables = RecordingMap::new();
     match Template::from_str(alloc, source) {
@@ -96,8 +96,8 @@ fn names_by_template(alloc: Global, source: &str) -> (u64, u64) {
     }
 }
 
-/// Returns the names that a byte template has looked up, as digits: after it is parsed, and after it is also
-/// expanded.
+/// Returns the names looked up by parsing a byte template, and those by parsing and expanding it, as the
+/// digits of two numbers.
 fn names_by_byte_template(alloc: Global, source: &str) -> (u64, u64) {
     let variables = RecordingMap::new();
     match ByteTemplate::from_slice(alloc, source.as_bytes()) {
@@ -110,7 +110,7 @@ fn names_by_byte_template(alloc: Global, source: &str) -> (u64, u64) {
     }
 }
 
-/// Returns whether each way of expanding a source looks up exactly these names.
+/// Returns whether each way of expanding a source looks up exactly `names`.
 fn looks_up(alloc: Global, source: &str, names: u64) -> bool {
     names_by_text(alloc, source) == names
         && names_by_bytes(alloc, source) == names
@@ -121,7 +121,8 @@ fn looks_up(alloc: Global, source: &str, names: u64) -> bool {
         && names_by_byte_template(alloc, source) == (0, names)
 }
 
-/// Returns whether calls look up `names` before a source's fault is found, and templates look up no names.
+/// Returns whether `substitute` and `substitute_bytes` look up `names` before they find a source's fault, and
+/// templates look up none.
 fn looks_up_before_fault(alloc: Global, source: &str, names: u64) -> bool {
     names_by_text(alloc, source) == names
         && names_by_bytes(alloc, source) == names
@@ -129,7 +130,7 @@ fn looks_up_before_fault(alloc: Global, source: &str, names: u64) -> bool {
         && names_by_byte_template(alloc, source) == (0, 0)
 }
 
-/// Returns the index of the first row whose source looks up other names than the row has, or `None`.
+/// Returns the index of the first row for which `looks_up` returns false, or `None` if there is no such row.
 fn wrong_row(alloc: Global, rows: &[(&str, u64)]) -> Option<usize> {
     for (row, &(source, names)) in rows.iter().enumerate() {
         if !looks_up(alloc, source, names) {
@@ -187,7 +188,7 @@ fn lists_of_missing_variables_look_up_each_visited_variable_once(rt: HostRuntime
     assert_eq!(rt; names_by_missing(alloc, "${2:${3:$4}$1}$6"), 23416);
 }
 
-/// A JSON text whose members have another order in a tree. `TOML` has the same members.
+/// A JSON text whose members are in another order than in its tree. `TOML` has the same members.
 const JSON: &str = r#"{"b":["$1","${2:$1}"],"a":"${3?}$1","c":"$1"}"#;
 
 const TOML: &str = "b = ['$1', '${2:$1}']\na = '${3?}$1'\nc = '$1'\n";

@@ -37,7 +37,7 @@ fn expect_position(
     Ok(())
 }
 
-/// Expects, as `expect_position` does, that a source expanded without variables has its fault at `want`.
+/// Expects a fault at `want` when a source is expanded without variables. `expect_position` checks the fault.
 fn expect_refused(rt: &impl Testing, source: &str, want: &str) -> Result<(), AllocError> {
     match substitute(rt.alloc(), source, &NoSubstitution) {
         Ok(_) => panic!(rt; "no fault: {source:?}"),

@@ -1,6 +1,6 @@
 //! Templates expanded with two maps, owned templates that are taken apart, expansion into slices, `{:?}` of
-//! templates, and escaped texts. Each row of `subst_vectors` tests other outputs, also those of borrowed
-//! templates and copies.
+//! templates, and escaped texts. Rows of `subst_vectors` test other outputs, among them those of borrowed
+//! templates and of copies.
 
 use crate::expect::expect;
 use std::alloc::{AllocError, Global};
@@ -55,7 +55,7 @@ fn one_template_serves_two_maps(rt: HostRuntime) {
 
 const GREETING: &str = "Hello ${name}!";
 
-/// Returns the output of a template, and its source.
+/// Returns the output of a template and its source, joined by ` of `.
 fn expanded(alloc: Global, template: &TemplateBuf) -> TextResult {
     let given = template.expand(alloc, &texts(alloc, "name=world")?)?;
     Ok(format!(in alloc; "{given} of {}", template.source())?)
@@ -66,8 +66,7 @@ fn expanded_of_bytes(alloc: Global, template: &ByteTemplateBuf) -> TextResult {
     Ok(format!(in alloc; "{} of {}", text(&given), text(template.source()))?)
 }
 
-/// Returns the output of an owned template, its source, and, in upper case, the source that `into_source`
-/// returns.
+/// Returns the result of `expanded`, and after a comma the source from `into_source` in upper case.
 fn taken_apart(alloc: Global, template: TemplateBuf) -> TextResult {
     let output = expanded(alloc, &template)?;
     let mut source = template.into_source();
@@ -91,7 +90,7 @@ fn owner_of_bytes(alloc: Global) -> Result<ByteTemplateBuf, Error> {
     Ok(ByteTemplateBuf::from_vec(source)?)
 }
 
-/// Returns the output and the source of a template that is taken apart, and then of its clone.
+/// Returns the results of `taken_apart` for a template and of `expanded` for its clone, joined by `; `.
 fn with_clone(alloc: Global) -> TextResult {
     let original = owner(alloc)?;
     let clone = original.clone()?;

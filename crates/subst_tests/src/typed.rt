@@ -22,8 +22,8 @@ struct Config {
 const PAIRS: &str = "bar=aap,baz=noot,port=80,verbatim=$bar${a:x}\\\",\
     short=$bar,braces=${a:x},escaped=\\$bar,two=\\\\,one=\\,open={,close=}";
 
-/// Returns the text of a value read from JSON, or the fault of a string, or `no JSON` for an error of the
-/// reader.
+/// Returns the `{:?}` of a value read from JSON, the text of a string's fault, or `no JSON` for an error of
+/// the reader.
 fn of_json<T: Debug + Drop>(
     alloc: Global,
     read: Result<T, json::Error>,
@@ -36,8 +36,8 @@ fn of_json<T: Debug + Drop>(
     }
 }
 
-/// Returns the text of a value read from TOML, or the fault of a string, or `no TOML` for an error of the
-/// reader.
+/// Returns the `{:?}` of a value read from TOML, the text of a string's fault, or `no TOML` for an error of
+/// the reader. For bytes that aren't UTF-8, returns `no text`.
 fn of_toml<T: Debug + Drop>(
     alloc: Global,
     read: Result<T, filled::Error>,
@@ -268,7 +268,7 @@ fn toml_under_a_long_header(alloc: Global, key: &str) -> Result<String, AllocErr
 #[test]
 fn a_type_is_read_from_80_levels_of_toml(rt: HostRuntime) {
     // If the key has two parts, the source can still be read as a tree. But the type is read from the printed
-    // tree, and the reader refuses that text's header of 81 parts.
+    // tree, whose header has 81 parts, and the reader refuses that header.
     let rows: &[(&str, &str)] = &[("k", "a tree"), ("k.k", "no TOML")];
     for &(key, want) in rows {
         expect(&rt, key, toml_under_a_long_header(rt.alloc(), key), want);

@@ -5,7 +5,7 @@ use Rattle.std.specs.List.{flat_map}
 use Rattle.toml_writer.specs.Text.{key_text}
 use Rattle.subst_document.specs.Paths.{PathStep, Key, Index}
 
--- the text of a step: a key after `dot`, quoted if it can't be bare, or an index in brackets
+-- the text of a step: `dot` and the key, quoted if it can't be bare; or the index in brackets
 abbrev pub step_text : List ℕ → PathStep → List ℕ
 step_text dot (Key key) = dot ++ key_text key
 step_text dot (Index i) = codes "[" ++ (decimal i ++ codes "]")

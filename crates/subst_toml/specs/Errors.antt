@@ -1,4 +1,5 @@
--- The error of a call, from the error of one of its steps.
+-- Errors of calls that fill in TOML: how they are made from errors of the reader or of a substitution, and
+-- how they are displayed.
 use Rattle.std.specs.Prelude.{◌≡◌, ⊤, ℕ, List, Option, Some, None, codes, IsSome}
 use Rattle.toml.specs.Errors.{IsMemory}
 use Rattle.toml.specs.declared.de.error.Error as reading
@@ -22,7 +23,7 @@ IsOfSubstitution e (Toml d) = ⊥
 IsOfSubstitution e (Subst d) = (d ≡ e) × IsSome (error_fault e)
 IsOfSubstitution e (OutOfMemory d) = error_fault e ≡ None
 
--- the error isn't `Toml` or `Subst` of a failure to allocate, which is `OutOfMemory` instead
+-- a failure to allocate is `OutOfMemory`, and never the inner error of `Toml` or `Subst`
 abbrev pub HasOwnMemory : Error → Type 0
 HasOwnMemory (InvalidUtf8 e) = ⊤
 HasOwnMemory (Toml e) = ¬ (IsMemory e)

@@ -36,7 +36,7 @@ IsPartOf token piece part = IsTokenOf (between (quotes_of token) piece) part
 abbrev pub IsFit : List ℕ → List ℕ → Type 0
 IsFit token value = IsTrue (fits token value)
 
--- a string of a text, and the range that spells it
+-- a string value of a TOML text, and the range that spells it
 pub record Spelled : Type 0 where
   pub text : List ℕ
   pub span : Range ℕ
@@ -45,8 +45,8 @@ pub record Spelled : Type 0 where
 abbrev pub spelled_of : StringAt → Spelled
 spelled_of it = record { text = string_bytes it.text; span = it.span }
 
--- The state of the walk through a text of this length: the open brackets, the innermost one last, and the
--- strings so far.
+-- The state of the walk through a text of `len` bytes: the open brackets, with the innermost one last; and
+-- the strings found so far.
 pub record Scanner : Type 0 where
   pub len : ℕ
   pub brackets : List Bracket
@@ -71,7 +71,8 @@ with_string p x text rest = record {
   } ∷ [];
 }
 
--- the state and the text after a value, or after only the opening bracket of an array or inline table
+-- the state and the text after a value. If the value is an array or an inline table, only its opening bracket
+-- is read
 abbrev pub value : Scanner → List ℕ → Read Scanner
 value p text =
     if starts_string text then option_map (λ r. (with_string p r.0 text r.1, r.1)) (quoted text)
@@ -79,8 +80,8 @@ value p text =
     else if first text == left_brace then Some (opened InlineTable p, drop 1 text)
     else option_map (λ r. (p, r.1)) (unquoted text)
 
--- the state and the text after a key and its value; of an array or inline table only the opening bracket is
--- read
+-- the state and the text after a key and its value. If the value is an array or an inline table, only its
+-- opening bracket is read
 abbrev pub pair : Scanner → List ℕ → Read Scanner
 pair p text = option_and_then (λ k. value p k.1) (key_equals text)
 
@@ -152,7 +153,7 @@ pub record RefusalIn : Type 0 where
   pub span : Range ℕ
   pub fault : Option Fault
 
--- the `RefusalIn` for a refusal of the code, without the path
+-- the `RefusalIn` for a `RefusalAt` of the code, without the path
 abbrev pub refusal_in : RefusalAt Path → RefusalIn
 refusal_in it = record { text = string_bytes it.text; span = it.span; fault = error_fault it.error }
 

@@ -1,4 +1,4 @@
--- Laws about trees.
+-- Laws about filling in a tree.
 use Rattle.std.specs.Prelude.{◌≡◌, ◌⊎◌}
 use Rattle.toml.specs.Data.{Data}
 use Rattle.subst_error.specs.Fault.{Fault}

@@ -17,8 +17,8 @@ use Rattle.subst_toml.specs.declared.path.Path.{Path}
 abbrev pub index_token : ℕ → List ℕ
 index_token n = codes "'" ++ (decimal n ++ codes "'")
 
--- The path leads to the string with this index. In the tree of `source` with each string of `list` replaced
--- by its index, the path leads to that index.
+-- The path leads to the string with this index in `list`. In a copy of `source`, each string of `list` is
+-- replaced by its index; in the tree of the copy, the path leads to `index`.
 abbrev pub IsPathTo : (source : List ℕ) → List StringAt → ℕ → Path → Type 0
 IsPathTo source list index path = ReadsAsTree (with_plain index_token source 0 0 list)
     (λ d. Leads (steps_of path) d (decimal index))
@@ -40,7 +40,7 @@ pub record AreAllRefused (ask : List ℕ → Answer → Type 0) (source : List �
     : Type 0 where
   -- each refusal has its string's span, and a path that leads to the string
   pub each : AreRefusedIn ask source all
-  -- `all` are the refusals of the document's strings, in order; each other string has an output
+  -- `all` has the refusals of the refused strings, in order; the document's other strings have outputs
   pub refused : AreAllRefusals ask source (map refusal_in all)
   -- each span spells its string, and each path leads to that string in the tree of `source`
   pub found : ReadsAsTree source (λ d. AllByRecursion (IsFound source d) all)

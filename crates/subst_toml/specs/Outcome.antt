@@ -92,8 +92,8 @@ abbrev pub StatesFirst : {V Seen T : Type 0} → (V → List ℕ) → (V → See
 StatesFirst items see look_up s result = OnSubst result
     (λ f. ReadsAsTree s (λ d. RefusesFirst (AnswersText items see look_up) (strings d) f))
 
--- the error `Toml` is the reader's if s isn't a document, and otherwise that of converting the filled-in tree
--- of s
+-- the inner error of `Toml` is the reader's if s isn't a document; otherwise it is the error of converting
+-- the filled-in tree of s
 abbrev pub StatesReading : {V Seen T : Type 0} → (V → List ℕ) → (V → Seen) → (List ℕ → Option Seen)
     → (List ℕ → Result T reading.Error → Type 0) → List ℕ → Result T Error → Type 0
 StatesReading items see look_up Reads s result = IfToml result

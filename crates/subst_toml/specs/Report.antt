@@ -26,7 +26,7 @@ RefusalAt = found.RefusalAt Path
 abbrev pub HasRange : RefusalAt → Type 0
 HasRange it = HasFaultInText (refusal_in it)
 
--- `text` reports the refused string `it` of s, a file's text
+-- `text` reports the refused string `it` of s; s is the text of `file`
 abbrev pub ReportsRefused : (file s : List ℕ) → RefusalAt → List ℕ → Type 0
 ReportsRefused file s it text =
     ReportsFault IsPlaceIn file s (dotted_text (steps_of it.path)) it.span (error_fault it.error) text
@@ -35,9 +35,9 @@ ReportsRefused file s it text =
 abbrev pub span_of : reading.Error → Range ℕ
 span_of e = record { start = span_start e; end = span_end e }
 
--- `text` is the reader's message. If s isn't a document, the message has a position, which is a range of s.
--- The position is the span of the error e if that span is a range of s. If s is a document that doesn't fit a
--- type, the message has no position.
+-- `text` reports the reader's error e in s, the text of `file`. If s isn't a document, the report has a place
+-- in s. The place is the span of e if that span is a range of s. If s is a document that doesn't fit a type,
+-- the report has no place.
 abbrev pub ReportsReader : reading.Error → (file s text : List ℕ) → Type 0
 ReportsReader e file s text =
     (place : Option (Range ℕ)) × (message : List ℕ)
@@ -45,7 +45,7 @@ ReportsReader e file s text =
     × (IsRangeIn s (span_of e) → place ≡ span_of e))
     × (text ≡ lines_of file s place message)
 
--- `text` reports the error of a call that fills in s, a file's text
+-- `text` reports the error of a call that fills in s, the text of `file`
 abbrev pub Reports : (List ℕ → Answer → Type 0) → (file s : List ℕ) → Error → List ℕ → Type 0
 Reports ask file s (InvalidUtf8 e) text = (message : List ℕ) × (text ≡ lines_of file s None message)
 Reports ask file s (Toml e) text = ReportsReader e file s text

@@ -57,7 +57,7 @@ pub(crate) fn change_of<F: Fill>(alloc: Global, value: &Value, filler: &F) -> Re
     }
 }
 
-/// Returns the change that fills in the array `items`, as [`change_of`].
+/// Returns the change that fills in the array `items`, or the error of its first refused string.
 #[cycle(find)]
 fn change_of_items<F: Fill>(alloc: Global, items: &Vec<Value>, filler: &F) -> Result<Change, Error>
     ensures ok { IfOk result (λ change. AreEach (GivesBy (F.answers filler.now))
@@ -77,7 +77,7 @@ fn change_of_items<F: Fill>(alloc: Global, items: &Vec<Value>, filler: &F) -> Re
     Ok(found.into_change())
 }
 
-/// Returns the change that fills in the table `members`, as [`change_of`].
+/// Returns the change that fills in the table `members`, or the error of its first refused string.
 #[cycle(find)]
 pub(crate) fn change_of_members<F: Fill>(
     alloc: Global,

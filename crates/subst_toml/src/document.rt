@@ -58,7 +58,7 @@ where
     fill_in_by(alloc, source, &Filler { variables })
 }
 
-/// Fills in the strings of a TOML document, given as bytes, as [`fill_in`].
+/// Fills in the strings of `source`, the bytes of a TOML document, as [`fill_in`].
 ///
 /// # Errors
 ///
@@ -121,7 +121,7 @@ fn written<F: Fill>(alloc: Global, source: &str, filler: &F) -> Result<Option<St
     }
 }
 
-/// Returns whether a text is read as this table.
+/// Returns whether reading `text` yields the table `table`.
 fn is_read_as(alloc: Global, text: &str, table: &Table) -> Result<bool, AllocError>
     ensures { IfOk result
         (λ is. IsTrue is → parse_document text.now ≡ Some (table_view table.now)) }

@@ -12,8 +12,8 @@ pub enum Error {
     InvalidUtf8(Utf8Error),
     /// The text isn't a TOML document, or the filled-in tree doesn't fit the type that the call returns.
     Toml(toml::de::Error),
-    /// A string of the tree is refused. The error is never `OutOfMemory`, and its positions are byte offsets
-    /// in the string.
+    /// A string of the tree is refused. The inner error is never `OutOfMemory`, and its positions are byte
+    /// offsets in the string.
     Subst(subst_error::Error),
     /// An allocation failed.
     OutOfMemory(AllocError),

@@ -1,4 +1,4 @@
-//! A law of the definitions that the contracts cite, as the contract of a function that does nothing.
+//! A law of the definitions that the contracts cite. The law is the contract of a function that does nothing.
 
 ghost use Rattle.toml.specs.Data.{Data};
 ghost use Rattle.subst_language.specs.Language.LookUp.{LookUp};

@@ -122,7 +122,7 @@ where
     ensures subst { StatesFirst M.Value.text M.see (M.look_up variables.now) source.now result }
     ensures range { OnSubst result HasRange }
 
-    // Neither `Toml` nor `Subst` is an error of memory.
+    // A failure to allocate is `OutOfMemory`, and never the inner error of `Toml` or `Subst`.
     ensures memory { IfErr result HasOwnMemory }
 {
     Ok(Value::Table(filled_table(alloc, source, variables)?))
@@ -171,7 +171,7 @@ pub fn from_str<'a, T: FromText, M: VariableMap<'a>>(
 where
     M::Value: AsStr + Drop,
 
-    // The filled-in tree is printed, and the text is converted into the value.
+    // The returned value is converted from the printed text of the filled-in tree.
     ensures ok { ReadsType M.Value.text M.see (M.look_up variables.now) T.reads source.now result }
     ensures utf8 { StatesUtf8 source.now result }
 

@@ -33,7 +33,7 @@ impl fmt::Display for Path {
     }
 }
 
-/// Writes a step: a key after `dot`, or an index in brackets.
+/// Writes a step: `dot` followed by a key, or an index in brackets.
 ///
 /// # Errors
 ///

@@ -72,8 +72,8 @@ pub fn place_in(
     }
 }
 
-/// Returns the string spelled by the text at `range` in `source` with `quotes` appended, or `None` if it
-/// spells no string.
+/// Returns the string that the text at `range` in `source` spells once `quotes` are appended. The result is
+/// `None` if `range` isn't within `source`, or if the text with `quotes` spells no string.
 pub(crate) fn read_up_to(
     alloc: Global,
     source: &str,
@@ -105,7 +105,7 @@ pub(crate) fn quotes(token: &str) -> Option<&str>
     }
 }
 
-/// Returns whether `offset` is between a carriage return and a line feed that `string` ends with.
+/// Returns whether `string` ends with a carriage return and a line feed, and `offset` is between the two.
 fn is_in_newline(string: &[u8], offset: usize) -> bool
     ensures { IsTrue result → IsInNewline string.now offset }
 {

@@ -1,5 +1,5 @@
-//! The spans in a TOML document that spell many ranges of one string. Each piece of the string's token is
-//! read by itself between the quotes. Only spans that the reader confirms are returned.
+//! The spans in a TOML document that spell many ranges of one string. Each piece of the string's token is put
+//! between quotes and read by itself. Only spans that the reader confirms are returned.
 
 ghost use Rattle.std.specs.Prelude.{◌≡◌, ◌++◌, ◌∷◌, [], IfOk, IfSome, IsTrue, string_bytes};
 ghost use Rattle.subst_toml.specs.Places.{IsTokenOf};
@@ -145,7 +145,8 @@ pub fn places_in(
     Ok(Some(places))
 }
 
-/// Returns the content of `token`, with the spans of `ranges` of `string`, or `None` if a span isn't found.
+/// Returns the content of `token`, with the spans that spell `ranges` of `string`. The spans are left out if
+/// the content is `string` itself. The result is `None` if a span isn't found.
 ///
 /// # Errors
 ///

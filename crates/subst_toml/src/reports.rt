@@ -20,8 +20,9 @@ use toml::de;
 /// If a string is refused, every refused string is reported, in document order. The report of each is a line
 /// `FILE:LINE:COLUMN: PATH: fault`, and the underlined line of the text if `error::underline` of `subst`
 /// returns one. If the text isn't a document, the reader's message is reported in the same form, without a
-/// path. If a tree doesn't fit a type, the report has the key, but no line and column. A fault whose position
-/// isn't confirmed has no line and column either; no document is known for which that happens.
+/// path. If a tree doesn't fit a type, the report has the key of the value that doesn't fit, but no line and
+/// column. A fault whose position isn't confirmed has no line and column either; no document is known for
+/// which that happens.
 ///
 /// # Errors
 ///

@@ -1,7 +1,7 @@
 //! Conversion of a tree into a type of the caller's. The kit's `toml` reads types only from texts, so the
-//! tree is printed, and the type is read from the printed text. The conversion gets no variables. If the tree
-//! has a date that no text can hold, the printed text isn't TOML. Otherwise reading the printed text yields
-//! the same tree, provided that the tree nests at most 80 deep.
+//! tree is printed, and the type is read from the printed text. The variables aren't passed to the
+//! conversion. If the tree has a date that no text can hold, the printed text isn't TOML. Otherwise reading
+//! the printed text yields the same tree, provided that the tree nests at most 80 deep.
 
 ghost use Rattle.std.specs.Prelude.{◌≡◌, ◌≤◌, false, true, None, Some, Result, IfErr, IfOk, List, ℕ, string_bytes};
 ghost use Rattle.toml.specs.Data.{members_depth, members_have_valid_dates};
@@ -18,8 +18,8 @@ use toml::{Table, ser};
 /// A type that a text can be converted into: any that `serde` deserializes.
 pub trait FromText: Sized + Drop {
     // The relation of a text and the possible results of its conversion. For the types of `serde`, it is only
-    // known that the span of an error is within the text. Even so, a contract that holds for every such
-    // relation states which text is converted.
+    // known that the span of an error is within the text. A contract in terms of `reads` still states which
+    // text is converted, since the contract holds for every such relation.
     ghost reads: { List ℕ → Result Self Error → Type 0 };
 
     /// Converts a text, or returns an error if it isn't a document or doesn't fit this type.

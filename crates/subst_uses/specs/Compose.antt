@@ -17,13 +17,13 @@ use Rattle.subst_uses.specs.declared.compose.ComposeError.TheVariants.{Text, Var
 abbrev pub compose : Grammar
 compose = grammar Shell true (λ operated name. Unit {0})
 
--- the text s is read as items that have this value
+-- the text s is read as items whose value under the look-up is `given`
 abbrev pub IsValueOf : LookUp → (s : List ℕ) → Given → Type 0
 IsValueOf look s given = (items : text.Text) × text.IsText compose false items [] × (s ≡ text.spelling items)
     × (text.text_value Shell Nothing items look ≡ given)
 
 -- the fault states the missing variable of the text s; in the fault, a digit may precede the variable's name,
--- as in a question to a `ShellMap`
+-- as in a name that a `ShellMap` reads as a question
 abbrev pub IsMissingOf : LookUp → (s : List ℕ) → Fault → Type 0
 IsMissingOf look s f = (position : ℕ) × (name : List ℕ) × (f ≡ NoSuchVariable position name)
     × IsValueOf look s (Err (without_question name))

@@ -27,7 +27,7 @@ report_of file e s =
 abbrev pub IsReport : List ℕ → Option Fault → List ℕ → List ℕ → Type 0
 IsReport file e s text = IfSome (report_of file e s) (λ shown. text ≡ shown)
 
--- the text is the reports of the variables `missing` of the source s, concatenated in order
+-- the text is a concatenation of reports, one for each variable in `missing`, in order; the source is s
 abbrev pub AreReports : List ℕ → List Variable → List ℕ → List ℕ → Type 0
 AreReports file missing s text = (reports : List (List ℕ))
     × (map (λ v. report_of file (Some (NoSuchVariable v.position v.name)) s) missing ≡ map Some reports)

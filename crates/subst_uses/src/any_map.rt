@@ -22,7 +22,7 @@ pub struct Refusal {
     pub range: Range<usize>,
 }
 
-/// Expands a source from a map of any kind, or returns its error with the range.
+/// Expands a source from a map of any kind, or returns the source's error with its range.
 ///
 /// # Errors
 ///

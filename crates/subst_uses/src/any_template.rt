@@ -1,4 +1,5 @@
-//! Callers that are passed a template. Contracts state the output, whatever the source of the template.
+//! Callers that take a template as a parameter. Contracts state the output, even if the source of the
+//! template is unknown.
 
 ghost use Rattle.std.specs.Prelude.{◌≤◌, ◌+◌, length};
 ghost use Rattle.subst.specs.Language.Tree.{Tree};

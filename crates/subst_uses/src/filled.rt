@@ -1,4 +1,5 @@
-//! Sources expanded from a `BTreeMap` with each type of values. Contracts state how the values are read.
+//! Sources expanded from a `BTreeMap`, with one function for each type of value. Contracts state how the
+//! values are read.
 
 ghost use Rattle.std.specs.Prelude.{IfSome, string_bytes};
 ghost use Rattle.std.specs.Option.{option_map};

@@ -1,4 +1,4 @@
-//! A greeting: a map of one variable, and a contract that states the output.
+//! A greeting, expanded from a map with one variable. The contract of `greet` states the output.
 
 ghost use Rattle.std.specs.Prelude.{◌≡◌, ◌++◌, None, codes, IfErr, IfOk, string_bytes};
 ghost use Rattle.subst.specs.ErrorFault.{error_fault};
@@ -29,7 +29,7 @@ impl<'a> VariableMap<'a> for Guest<'a> {
     }
 }
 
-/// Returns `Hello`, the guest's name and an exclamation mark.
+/// Returns `Hello`, a space, the guest's name and an exclamation mark.
 ///
 /// # Errors
 ///

@@ -1,4 +1,4 @@
-//! A launcher: the command line of a program, whose arguments are templates.
+//! A launcher of a program. Each argument of the program's command line is a source.
 
 ghost use Rattle.std.specs.Prelude.{map, IfOk, IfErr, IfSome};
 ghost use Rattle.subst.specs.ErrorFault.{error_fault};
@@ -10,7 +10,7 @@ use std::alloc::Global;
 use std::collections::BTreeMap;
 use subst::Error;
 
-/// Expands each argument of a command line. A value is never split.
+/// Expands each argument of a command line. A variable's value is never split into several arguments.
 ///
 /// # Errors
 ///

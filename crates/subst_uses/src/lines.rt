@@ -35,11 +35,12 @@ pub fn early_fault(alloc: Global, lines: &str) -> Result<Option<ParseError>, All
     }
 }
 
-/// Returns whether the fault `e` remains, whatever is appended to the text. The text has `end` bytes.
+/// Returns whether the fault `e` of a text remains, whatever is appended to the text. The text has `end`
+/// bytes.
 ///
 /// # Errors
 ///
-/// If allocation failed, so that the error states no fault.
+/// If `e` is an allocation failure instead of a fault.
 fn is_settled(e: &ParseError, end: usize) -> Result<bool, AllocError>
     ensures { IfOk result (λ settled. IsSomeAnd (parse_fault e.now)
         (λ f. IsTrue settled ↔ IsSettled end f)) }

@@ -23,7 +23,7 @@ pub struct Fields<'f> {
 }
 
 impl<'f> Fields<'f> {
-    /// Returns the fields of a line, or `None` if one is too long.
+    /// Returns the fields of a line, or `None` if a field is longer than `LONGEST`.
     pub fn new(level: &'f str, message: &'f str) -> Option<Fields<'f>>
         ensures short { IsSome result ↔ (max (length level.now) (length message.now) ≤ LONGEST) }
         ensures given { IfSome result (λ f. (f.level ≡ level.entry) × (f.message ≡ message.entry)) }

@@ -10,8 +10,8 @@ use crate::memory;
 use std::alloc::{AllocError, Global};
 use subst::{Error, VariableMap, substitute_bytes};
 
-/// A map with the variables `red`, `bold` and `reset`: escape codes of a terminal, or empty if colours are
-/// off.
+/// A map with the variables `red`, `bold` and `reset`. Their values are escape codes of a terminal, or empty
+/// if colours are off.
 pub struct Colours {
     pub on: bool,
 }
@@ -60,7 +60,7 @@ pub fn coloured(alloc: Global, source: &[u8], colours: &Colours) -> Result<Vec<u
     substitute_bytes(alloc, source, colours)
 }
 
-/// Returns the word that begins a warning, in red if colours are on.
+/// Returns `Warning: `, in red if colours are on.
 ///
 /// # Errors
 ///

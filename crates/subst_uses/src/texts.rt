@@ -24,7 +24,7 @@ pub fn by_owner(
     template.expand(alloc, variables)
 }
 
-/// Returns the template of a text, with a copy of the text.
+/// Returns the template of a text. The template owns a copy of the text.
 pub fn kept(alloc: Global, source: &str) -> Result<TemplateBuf, ParseError>
     ensures { IfOk result (λ template. template ≡ source.now) }
 {

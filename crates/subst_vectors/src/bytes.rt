@@ -113,7 +113,7 @@ fn borrowed(owner: &ByteTemplateBuf, values: &Values, ways: &mut Ways) -> Result
     ways.bytes("ByteTemplate::clone", clone.expand(ways.alloc, values))
 }
 
-/// Expands copies that own the source, and adds the answers.
+/// Expands copies of `owner` that own their source, and adds the answers.
 fn copies(owner: &ByteTemplateBuf, values: &Values, ways: &mut Ways) -> Result<(), AllocError> {
     let (source, borrowed) = (owner.source(), owner.as_template());
     let copy = ByteTemplateBuf::from_template(ways.alloc, &borrowed)?;

@@ -85,8 +85,9 @@ fn answer<F: Format>(alloc: Global, read: Result<F::Tree, F::Error>) -> Result<A
     }
 }
 
-/// Reads a filled-in text as a tree, and returns the answer. If text and tree are both refused and
-/// `F::HAS_EQUAL_KEYS` holds, returns the tree's fault, since the text's fault may be that of another string.
+/// Reads the filled-in text as a tree, and returns the answer. If both `filled` and `of_tree` are refusals
+/// and `F::HAS_EQUAL_KEYS` holds, returns the fault in `of_tree`, since `filled` may have the fault of
+/// another string.
 fn read_again<F: Format>(
     alloc: Global,
     filled: Result<Option<String>, F::Error>,

@@ -25,7 +25,7 @@ pub trait Format {
 
     type Error: Drop;
 
-    /// Returns the answer that an error of the format states.
+    /// Returns the answer of a call that failed with `e`.
     fn refusal(e: Self::Error) -> Result<Answer, AllocError>;
 
     /// Reads a tree without filling in its strings.
@@ -49,7 +49,7 @@ pub trait Format {
     /// Calls `fill_in`.
     fn fill_in(alloc: Global, source: &str, map: &Texts) -> Filled<Self::Error>;
 
-    /// Returns the faults of `refusals_in`, or `None` if a span isn't confirmed.
+    /// Calls `refusals_in`, and returns only the faults of its result. Returns `None` if `refusals_in` does.
     fn refusals(
         alloc: Global,
         source: &str,

@@ -1,8 +1,8 @@
-//! Checks each row of the files with the calls for the row's kind: `subst_vectors FILE..`.
+//! Checks the rows of files: `subst_vectors FILE..`.
 //!
-//! `data/README.md` describes the rows. For each file, the program prints how many rows hold, or each row
-//! that doesn't, with the expected answer, the actual one, and the call. The exit status is 1 if a row
-//! doesn't hold or is malformed, or if a file can't be read.
+//! Each row is checked with the calls for its kind. `data/README.md` describes the rows. For each file, the
+//! program prints how many rows hold, or each row that doesn't, with the expected answer, the actual one, and
+//! the call. The exit status is 1 if a row doesn't hold or is malformed, or if a file can't be read.
 #![tactic(auto)]
 
 use std::process::ExitCode;

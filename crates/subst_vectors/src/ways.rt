@@ -1,4 +1,4 @@
-//! The calls for a row, and the differences between their answers.
+//! The calls for a row, and how their answers differ from the expected one.
 
 use crate::answer::Answer;
 use std::alloc::{AllocError, Global};
@@ -36,8 +36,9 @@ impl Ways {
         }
     }
 
-    /// Returns the differences from the expected answer as a text: that answer, and then each other answer
-    /// with the calls that returned it. The text is empty if all calls returned the expected answer.
+    /// Returns the differences from the expected answer as a text: first the expected answer, then each
+    /// unexpected one with the calls that returned it. The text is empty if all calls returned the expected
+    /// answer.
     pub fn difference(&self, source: Option<&str>, expected: &str) -> Result<String, AllocError> {
         let mut text = String::new(self.alloc);
         let module = self.module;
@@ -90,8 +91,8 @@ impl Ways {
         self.bytes(name, filled.map(|text| text.into_bytes()))
     }
 
-    /// Adds a call that appended to an output with the contents `BEFORE`, and its answer. `output` is the
-    /// contents after the call, which must equal `BEFORE` if the call failed.
+    /// Adds the call `name`, which appended to an output, and its answer. The output was `BEFORE` before the
+    /// call, and is `output` after it. If the call failed, `output` must equal `BEFORE`.
     pub fn added(
         &mut self,
         name: &'static str,

@@ -30,8 +30,8 @@ may_change style token = not (is_alias style) && list_any is_mark token
 abbrev pub text_of : List ℕ → Option (List ℕ)
 text_of bytes = if is_utf8 bytes then Some bytes else None
 
--- The string that a value's token spells, or `None` for an alias or a token that can't be read. `indent` is
--- the number of spaces before each line of a value after `|` or `>`.
+-- The string that a value's token spells, or `None` for an alias or a token that can't be read. In a value
+-- with `|` or `>`, `indent` is the number of spaces before each line.
 unfoldable pub string_of : Style → (indent : ℕ) → (token : List ℕ) → Option (List ℕ)
 string_of style indent token = option_and_then text_of (value_of style indent token)
 
@@ -50,7 +50,7 @@ abbrev pub strings_at : (text : List ℕ) → Event → List (List ℕ)
 strings_at text (Value style span in_flow indent) = strings_of style indent (token_at text span)
 strings_at text _ = []
 
--- the strings of the values that may change, in the order of the text
+-- the strings of the values that may change, in the order of the events
 abbrev pub strings_in : (text : List ℕ) → List Event → List (List ℕ)
 strings_in text [] = []
 strings_in text (e ∷ es) = strings_at text e ++ strings_in text es
@@ -123,17 +123,17 @@ rest_of_value source (Value style span in_flow indent) (Value other_style other 
     if is_unblocked style other_style then header_rest (token_at source span) else []
 rest_of_value source _ _ = []
 
--- The first value is filled in as the second. Each value is a style, an indentation and a token. Either the
--- first value is unchanged, and the second is the same. Or the string of the first becomes the string of the
--- second.
+-- The second value results from filling in the first. Each value is a style, an indentation and a token.
+-- Either the first value is unchanged and the second equals it, or the string of the first becomes the string
+-- of the second.
 abbrev pub IsFilledValue : (ask : List ℕ → Answer → Type 0) → Style → (indent : ℕ) → (token : List ℕ)
     → Style → (indent : ℕ) → (token : List ℕ) → Type 0
 IsFilledValue ask style indent token other_style other_indent other =
     ((other_style ≡ style) × (other_indent ≡ indent) × (other ≡ token) × Stays ask style indent token)
     ⊎ ((y : List ℕ) × Changes ask style indent token y × (string_of other_style other_indent other ≡ Some y))
 
--- An event of `source` is filled in as the event f of `output`: a value as another value, a key as one with
--- the same bytes and style, and any other event as an equal one.
+-- An event of `source` is filled in as the event f of `output`. A value becomes a value, changed or
+-- unchanged. A key becomes one with the same bytes and style, and any other event an equal one.
 abbrev pub IsFilledEvent : (ask : List ℕ → Answer → Type 0) → (source output : List ℕ) → Event → Event
     → Type 0
 IsFilledEvent ask source output (Value style span in_flow indent) f =
@@ -147,8 +147,9 @@ IsFilledEvent ask source output (FlowKey style span) f =
 IsFilledEvent ask source output e f = f ≡ e
 
 -- The events of `source`, the first list, are filled in one by one as those of `output`, the second list.
--- From the positions i and j on, all bytes outside of the events' tokens are equal. If a value is after `|`
--- or `>` only in `source`, the rest of its header is kept after its token in `output`.
+-- From position i of `source` and position j of `output` on, all bytes outside of the events' tokens are
+-- equal, with one exception. If a value has `|` or `>` only in `source`, the comment and line end of its
+-- header follow its token in `output`.
 abbrev pub AreFilled : (ask : List ℕ → Answer → Type 0) → (source output : List ℕ) → (i j : ℕ) → List Event
     → List Event → Type 0
 AreFilled ask source output i j [] fs = (fs ≡ []) × (drop j output ≡ drop i source)

@@ -20,7 +20,7 @@ abbrev pub IsFilledDocument : (ask : List ℕ → Answer → Type 0) → (source
 IsFilledDocument ask source output =
     ReadsAs source (λ es. ReadsAs output (λ fs. AreFilled ask source output 0 0 es fs))
 
--- the reason of a refusal is true of the source
+-- the reason of a refusal is true of the source: the source isn't UTF-8, or the reader refuses it
 abbrev pub holds : (source : List ℕ) → Reason → Type 0
 holds source InvalidUtf8 = ¬ (IsUtf8 source)
 holds source (Reader reason) = read source ≡ None

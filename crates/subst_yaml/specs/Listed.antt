@@ -84,7 +84,7 @@ Leads source path x = ReadsAs source (λ es. (span : Range ℕ)
 -- token.
 pub record IsListing (source : List ℕ) (list : List StringAt) : Type 0 where
   pub all : ReadsAs source (λ es. map text_at list ≡ strings_in source es)
-  -- each has the span of its token
+  -- each string in the list has the span of its token
   pub each : ReadsAs source (λ es. map spelled_of list ≡ spelled_in source es)
   pub spelled : AllByRecursion (λ it. IsSpelledAt source it.span (text_at it)) list
 
@@ -122,7 +122,8 @@ pub record IsRefusedAt (source : List ℕ) (it : RefusalAt) : Type 0 where
 
 -- The list has all refused strings of the text, each with its span and its path.
 pub record AreAllRefused (ask : List ℕ → Answer → Type 0) (source : List ℕ) (all : List RefusalAt) : Type 0 where
-  -- the list has the refusals of the text's strings, in order, and every other string is filled in
+  -- the list has the refusals of the refused strings, in order; all other strings of values that may change
+  -- are filled in
   pub each : ReadsAs source (λ es. AreRefusalsOf ask (found_in source start es) all)
   pub stand : AllByRecursion (IsRefusedAt source) all
 
@@ -134,5 +135,5 @@ pub record Lists {T : Type 0} (Are : List T → Type 0) (source : List ℕ)
   pub yaml : IfYaml result (λ _. read source ≡ None)
   pub inside : IfYaml result (λ fault. IsInside fault.span source)
   pub subst : OnSubst result (λ _. ⊥)
-  -- a failure to allocate is `OutOfMemory`, and no other case
+  -- a failure to allocate is stated by `OutOfMemory`, never by `Subst`
   pub memory : IfErr result HasOwnMemory

@@ -13,7 +13,7 @@ use Rattle.subst_yaml.specs.declared.error.Fault.{Fault}
 abbrev pub ReadsAs : List ℕ → (List Event → Type 0) → Type 0
 ReadsAs text P = (es : List Event) × (read text ≡ Some es) × P es
 
--- P holds for the reader's refusal, if that is the error
+-- P holds for the fault, if the error is `Yaml`
 abbrev if_yaml : Error → (Fault → Type 0) → Type 0
 if_yaml (Yaml fault) P = P fault
 if_yaml (Subst e) P = ⊤
@@ -26,7 +26,7 @@ IfYaml result P = IfErr result (λ e. if_yaml e P)
 abbrev pub IsInside : Span → (text : List ℕ) → Type 0
 IsInside span text = (span.start ≤ span.«end») × (span.«end» ≤ length text)
 
--- P holds for the fault of a string, if that is the error
+-- P holds for the fault of the inner error, if the error is `Subst`
 abbrev if_subst : Error → (substituting.Fault → Type 0) → Type 0
 if_subst (Yaml fault) P = ⊤
 if_subst (Subst e) P = IfSome (error_fault e) P

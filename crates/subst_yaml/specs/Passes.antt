@@ -38,9 +38,9 @@ abbrev pub AllStay : (ask : List ℕ → Answer → Type 0) → (text : List ℕ
 AllStay ask text [] = ⊤
 AllStay ask text (e ∷ es) = StaysAt ask text e × AllStay ask text es
 
--- The event f of `output` is the event e of `source` filled in, and the bytes from the positions `at` to both
--- tokens are equal. In `output`, the bytes of `rest_of_value` follow the token. The positions `next` are
--- after the token in `source`, and after these bytes in `output`.
+-- The event f of `output` is the event e of `source` filled in. The bytes between the positions `at` and the
+-- tokens are equal in both texts. In `output`, the bytes of `rest_of_value` follow the token. The positions
+-- `next` are after the token in `source`, and after these bytes in `output`.
 pub record IsFilledTo (ask : List ℕ → Answer → Type 0) (source output : List ℕ) (at : Positions) (e f : Event)
     (next : Positions) : Type 0 where
   pub event : IsFilledEvent ask source output e f

@@ -39,7 +39,7 @@ abbrev pub colon_before : List PathStep → List ℕ
 colon_before [] = []
 colon_before (first ∷ steps) = codes ":"
 
--- the number of a document, from the second one on, and a colon if steps follow
+-- the number n of a document, and a colon if steps follow; nothing for the first document
 abbrev pub document_text : ℕ → List PathStep → List ℕ
 document_text n steps = if nat_lt 1 n then decimal n ++ colon_before steps else []
 
@@ -68,7 +68,7 @@ begun trail = record { document = trail.document + 1; steps = [] }
 abbrev pub with_steps : List StepAt → Trail → Trail
 with_steps steps trail = record { document = trail.document; steps = steps }
 
--- the trail with the step `next` at a depth, after the steps of lesser depths
+-- the trail with the step `next` in place of its steps from a depth on; the first step has depth 1
 abbrev pub stepped : (depth : ℕ) → StepAt → Trail → Trail
 stepped depth next trail = with_steps (take (depth - 1) trail.steps ++ next ∷ []) trail
 
@@ -94,8 +94,8 @@ left trail = with_steps (take (length trail.steps - 1) trail.steps) trail
 abbrev pub last_step : Trail → Option StepAt
 last_step trail = slice_get trail.steps (length trail.steps - 1)
 
--- the trail after a value: if its last step, the first argument, is an item in brackets, the next item
--- replaces it; any other step is kept
+-- the trail after a value. The first argument is the last step of the trail before the value. An item in
+-- brackets is replaced by the next item, and any other step is kept
 abbrev pub past : Option StepAt → Trail → Trail
 past (Some (step.Member i)) trail = entered (step.Member (i + 1)) (left trail)
 past (Some (step.Key span)) trail = trail
@@ -112,7 +112,7 @@ first_step Sequence = step.Member 0
 first_step Mapping = step.Key (record { start = 0; «end» = 0 })
 first_step Pair = step.Key (record { start = 0; «end» = 0 })
 
--- the trail to the next value after an event; the trail before an event leads to the event's own value
+-- the trail to the next value after an event; the trail before the event of a value leads to that value
 abbrev pub after_event : Trail → Event → Trail
 after_event trail event.Document = begun trail
 after_event trail (event.Item depth) = item depth trail

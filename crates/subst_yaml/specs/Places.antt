@@ -36,8 +36,8 @@ AreInOrder from (range ∷ ranges) to =
 abbrev pub is_white : ℕ → Bool
 is_white b = b == 32 || b == 9 || b == 10
 
--- The range `short` of the string x is `range`, perhaps without white space at its end, since a line may end
--- there.
+-- The range `short` of the string x is `range`, perhaps shortened by white space at its end, since a line may
+-- end there.
 pub record IsShortened (x : List ℕ) (range short : Range ℕ) : Type 0 where
   pub start : short.start ≡ range.start
   pub before : short.end ≤ range.end
@@ -55,8 +55,8 @@ value_at token style in_flow indent =
 
 -- `token` is the range of a value's token in the text s, and the `places` spell the `ranges` of the value's
 -- string. With sentinels at both ends of each place, the token is read as the string with sentinels at both
--- ends of each range in `short`. The ranges in `short` are the `ranges`, each perhaps without white space at
--- its end, since a line may end there.
+-- ends of each range in `short`. The ranges in `short` are the `ranges`, each perhaps shortened by white
+-- space at its end, since a line may end there.
 pub record ArePlacesIn (s : List ℕ) (token : Range ℕ) (ranges places : List (Range ℕ)) : Type 0 where
   pub style : Style
   pub in_flow : Bool

@@ -63,7 +63,7 @@ pub(crate) fn string_of(
 ///
 /// # Errors
 ///
-/// If the value's string is refused, or if allocation fails. An error isn't `Yaml`.
+/// If the value's string is refused, or if allocation fails.
 pub(crate) fn change_of<F: Fill>(
     alloc: Global,
     style: Style,

@@ -74,8 +74,8 @@ fn is_unblocked(style: Style, other: Style) -> bool
 }
 
 /// Returns the bytes that must directly follow the token of `other` in the output. If both events are values,
-/// and only `event` is after `|` or `>`, these bytes are the rest of its header's line. Otherwise there are
-/// none.
+/// and only `event` is after `|` or `>`, these bytes are the comment and line end of its header. Otherwise
+/// there are none.
 fn rest_of_value(source: &[u8], event: Event, other: Event) -> &[u8]
     ensures { result.now ≡ rest_of_value source.now event other }
 {
@@ -137,7 +137,8 @@ fn is_read_as(alloc: Global, value: Token<'_>, string: &str) -> Result<bool, All
     }
 }
 
-/// Returns whether `other` is `value` as `filler` fills it in, or `false` if `filler` refuses it.
+/// Returns whether `filler` fills in `value` as `other`. Returns `false` if `filler` refuses the string of
+/// `value`.
 ///
 /// # Errors
 ///

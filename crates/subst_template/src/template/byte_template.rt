@@ -111,8 +111,8 @@ impl<'a> ByteTemplate<'a> {
         ensures value { ByValue M.Value.items M.see (M.look_up variables.now) self.now
             (Expands (λ output. output.items) result) }
 
-        // For any map: the source has a tree, and an error states the variable that its evaluation misses,
-        // with a range in the source.
+        // For any map: the source is a sentence, and an error states the first missing variable, with a range
+        // in the source.
         ensures sentence { IsSentence self.now }
         ensures missing { Misses (M.look_up variables.now) self.now expand_fault result }
         ensures range { EndsWithin self.now expand_fault result }
@@ -126,7 +126,8 @@ impl<'a> ByteTemplate<'a> {
     ///
     /// # Errors
     ///
-    /// As `expand`. Some parts may not be visited then. No contract states that each visited part is counted.
+    /// As `expand`. If the expansion fails, some parts may not be visited, and no contract states that each
+    /// visited part is counted.
     pub fn expand_counted<'b, M: VariableMap<'b>>(
         &self,
         alloc: Global,
@@ -144,7 +145,7 @@ impl<'a> ByteTemplate<'a> {
             (λ look. ByTree self.now (λ t. turns.new ≤ turns.old + visited_count t look)) }
         ensures grown { turns.old ≤ turns.new }
 
-        // For any map: the source has a tree, and an error states the variable that its evaluation misses,
+        // For any map: the source is a sentence, and an error states the source's first missing variable,
         // with a range in the source.
         ensures sentence { IsSentence self.now }
         ensures missing { Misses (M.look_up variables.now) self.now expand_fault result }
@@ -166,8 +167,9 @@ impl<'a> ByteTemplate<'a> {
     /// # Errors
     ///
     /// As `expand`, with the name of a missing variable borrowed from the source. `OutOfMemory` only if the
-    /// spare capacity of `output` is less than the bytes written: all, or those before the missing variable.
-    /// The items of `output` are then unchanged.
+    /// spare capacity of `output` is less than the number of bytes to write. These are all bytes of the
+    /// expansion, or those before the missing variable if there is one. The items of `output` are unchanged
+    /// after any error.
     pub fn expand_into<'b, M: VariableMap<'b>>(
         &self,
         output: &mut Vec<u8>,
@@ -233,12 +235,12 @@ impl<'a> ByteTemplate<'a> {
         variables(alloc, self.source, &self.parts)
     }
 
-    /// Returns the missing variables, in the order of the source: each that an expansion needs and
-    /// `variables` has no value for. The names in an unused default aren't needed. A name that is missing
-    /// twice is listed twice, at both positions.
+    /// Returns the missing variables in the order of the source. A variable is missing if an expansion needs
+    /// it and `variables` has no value for it. The names in an unused default aren't needed. A name that is
+    /// missing twice is listed twice, at both positions.
     ///
-    /// The list is empty if the template expands. Otherwise its first variable is the one that `expand`
-    /// returns. No value is read.
+    /// The list is empty if the template expands. Otherwise its first variable is the one that the error of
+    /// `expand` states. No value is read.
     ///
     /// # Errors
     ///

@@ -1,5 +1,4 @@
-//! Templates that own their byte sources: a source and its parts. Such a template can be borrowed as a
-//! `ByteTemplate`.
+//! Templates that own both a byte source and its parts. Such a template can be borrowed as a `ByteTemplate`.
 
 ghost use Rattle.std.specs.Prelude.{◌≡◌, ◌≤◌, IfOk, OnErr};
 ghost use Rattle.std.specs.Prelude.{vec_capacity, vec_len};
@@ -124,7 +123,7 @@ impl ByteTemplateBuf {
         ensures value { ByValue M.Value.items M.see (M.look_up variables.now) self.now
             (Expands (λ output. output.items) result) }
 
-        // For any map: the source has a tree, and an error states the variable that its evaluation misses,
+        // For any map: the source is a sentence, and an error states the source's first missing variable,
         // with a range in the source.
         ensures sentence { IsSentence self.now }
         ensures missing { Misses (M.look_up variables.now) self.now expand_fault result }

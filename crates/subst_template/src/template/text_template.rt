@@ -52,8 +52,8 @@ impl<'a> Template<'a> {
     /// # Errors
     ///
     /// `InvalidEscapeSequence`, `MissingVariableName`, `UnexpectedCharacter` or `MissingClosingBrace` if the
-    /// source isn't a sentence of the template language: its first fault, with its byte offset. `OutOfMemory`
-    /// if allocation fails.
+    /// source isn't a sentence of the template language. The error is the source's first fault, with the
+    /// fault's byte offset. `OutOfMemory` if allocation fails.
     pub fn from_str(alloc: Global, source: &'a str) -> Result<Self, ParseError>
         // Only a sentence has a template, and the template's source is this sentence.
         ensures ok { IfOk result (λ template. IsSentence source.now × (template ≡ source.now)) }
@@ -100,8 +100,8 @@ impl<'a> Template<'a> {
         expand_text(alloc, self.source, &self.parts, variables)
     }
 
-    /// Expands the template with the values of `variables`, which are texts, and appends the text to
-    /// `output`. Never allocates if `output` has capacity for the text, even if a variable is missing.
+    /// Expands the template with the values of `variables`, which are texts, and appends the result to
+    /// `output`. Never allocates if `output` has capacity for the result, even if a variable is missing.
     ///
     /// ```rust
     /// let template = Template::from_str(alloc, "Dear ${name:friend},")?;
@@ -113,8 +113,9 @@ impl<'a> Template<'a> {
     /// # Errors
     ///
     /// As `expand`, with the name of a missing variable borrowed from the source. `OutOfMemory` only if the
-    /// spare capacity of `output` is less than the bytes written: all, or those before the missing variable.
-    /// The text in `output` is then unchanged.
+    /// spare capacity of `output` is less than the number of bytes to write. These are all bytes of the
+    /// expansion, or those before the missing variable if there is one. The text in `output` is unchanged
+    /// after any error.
     pub fn expand_into<'b, M: VariableMap<'b>>(
         &self,
         output: &mut String,
@@ -139,8 +140,8 @@ impl<'a> Template<'a> {
         expand_text_into(self.source, &self.parts, variables, output)
     }
 
-    /// Returns the variables of the source, with the byte offset of each name and its kind, in the order of
-    /// the source. Those in defaults are included. A name that occurs twice is listed twice.
+    /// Returns the variables of the source, each with its kind and the byte offset of its name, in the order
+    /// of the source. Those in defaults are included. A name that occurs twice is listed twice.
     ///
     /// ```rust
     /// let template = Template::from_str(alloc, "$a ${b:${c?}$a}")?;
@@ -162,12 +163,12 @@ impl<'a> Template<'a> {
         variables(alloc, self.source.as_bytes(), &self.parts)
     }
 
-    /// Returns the missing variables, in the order of the source: each that an expansion needs and
-    /// `variables` has no value for. The names in an unused default aren't needed. A name that is missing
-    /// twice is listed twice, at both positions.
+    /// Returns the missing variables in the order of the source. A variable is missing if an expansion needs
+    /// it and `variables` has no value for it. The names in an unused default aren't needed. A name that is
+    /// missing twice is listed twice, at both positions.
     ///
-    /// The list is empty if the template expands. Otherwise its first variable is the one that `expand`
-    /// returns. No value is read.
+    /// The list is empty if the template expands. Otherwise its first variable is the one that the error of
+    /// `expand` states. No value is read.
     ///
     /// ```rust
     /// let template = Template::from_str(alloc, "$a ${b:${c?}$a}")?;

@@ -141,7 +141,7 @@ impl TemplateBuf {
         self.as_template().expand(alloc, variables)
     }
 
-    /// Expands the template with the values of `variables`, which are texts, and appends the text to
+    /// Expands the template with the values of `variables`, which are texts, and appends the result to
     /// `output`, as [`Template::expand_into`].
     ///
     /// # Errors

@@ -15,7 +15,7 @@ use std::alloc::{AllocError, Global};
 use subst_document::{PathStep, Paths, Plain, RefusalAt, StringAt, with_plain};
 use toml::Value;
 
-/// A filler that replaces each string by its index.
+/// Values that replace each string by its index.
 #[derive(Clone, Copy)]
 struct Indices;
 
@@ -28,7 +28,8 @@ impl Plain for Indices {
     }
 }
 
-/// The paths to the strings of a document, found in the tree of a copy with indices instead of strings.
+/// The paths to the strings of a document. They are found in a copy of the document that has indices instead
+/// of strings.
 #[derive(Clone, Copy)]
 pub(crate) struct TomlPaths<'t> {
     pub(crate) source: &'t str,

@@ -12,15 +12,15 @@ use toml_parser::bytes::is_non_eol;
 use toml_parser::text::{first, starts_newline};
 
 /// Returns whether a value fits into a token's kind of string. An empty value doesn't fit, since a line
-/// continuation before the value would extend past it. In single quotes, a value with a single quote or a
-/// control character other than a tab doesn't fit either.
+/// continuation before it would also leave out white space after it. In single quotes, a value with a single
+/// quote or a control character other than a tab doesn't fit either.
 pub(super) fn fits(token: &str, value: &str) -> bool
     ensures { result ≡ kinds.fits token.now value.now }
 {
     !value.is_empty() && (first(token) != b'\'' || are_literal(value.as_bytes()))
 }
 
-/// Returns whether a string in single quotes may contain these bytes.
+/// Returns whether a string in single quotes may contain each of `bytes`.
 fn are_literal(bytes: &[u8]) -> bool
     ensures { result ≡ list_all kinds.is_literal bytes.now }
 {
@@ -76,7 +76,8 @@ fn has_three_quotes(token: &str) -> bool {
     quotes(token).is_some_and(|quotes| quotes.len() == 3)
 }
 
-/// Returns whether a string in single quotes may contain a value.
+/// Returns whether a string in single quotes may contain each byte of `value`. In a multi-line string single
+/// quotes are allowed, and so are line feeds unless `has_crlf`.
 fn is_raw(value: &str, is_multi_line: bool, has_crlf: bool) -> bool {
     value.as_bytes().iter().all(|byte| match byte {
         b'\n' => is_multi_line && !has_crlf,
@@ -213,7 +214,8 @@ fn opening_newline(token: &str) -> &str {
     content.strip_suffix(rest).unwrap_or("")
 }
 
-/// Appends a string's own text. In a multi-line string the line ends of the text are kept.
+/// Appends a string's own text, escaped for double quotes. In a multi-line string the line ends of the text
+/// are kept.
 fn write_own(text: &str, is_multi_line: bool, output: &mut String) -> Result<(), AllocError> {
     for (at, c) in text.char_indices() {
         if is_multi_line && starts_newline(text.get(at..).unwrap_or("")) {

@@ -26,7 +26,8 @@ pub type RefusalAt = subst_document::RefusalAt<Path>;
 /// Lists the string values of a TOML document, in order, each with the byte range that spells it. Keys aren't
 /// listed.
 ///
-/// The result is `None` if a range isn't read as its string; no document is known for which that happens.
+/// The result is `None` if a string isn't found, or if its range doesn't spell it; no document is known for
+/// which that happens.
 ///
 /// # Errors
 ///
@@ -84,7 +85,8 @@ pub fn refusals_by<F: Fill>(
     Ok(refusals_of(alloc, source, &tree, filler)?)
 }
 
-/// Returns the refused strings of `source`, or `None` if one isn't confirmed in `tree`, the tree of `source`.
+/// Returns the refused strings of `source`, or `None` if the path or the span of one isn't confirmed. `tree`
+/// is the tree of `source`.
 fn refusals_of<F: Fill>(
     alloc: Global,
     source: &str,

@@ -1,5 +1,5 @@
-//! The string values of a document, in order, found token by token. Keys are read too, so that none is taken
-//! for a value.
+//! The string values of a document, in order, found in a walk through its text. Keys are read too, so that no
+//! key is taken for a value.
 
 ghost use Rattle.std.specs.Prelude.{◌≡◌, ◌<◌, ◌≤◌, true, ◌∷◌, drop, Some, IfOk, IfSome, length, map, option_map, slice_index};
 ghost use Rattle.toml_parser.specs.Strings.{starts_string};
@@ -32,7 +32,7 @@ struct Scanner {
     found: Vec<StringAt>,
 }
 
-/// Returns the string values of a document, or `None` if the text isn't a document.
+/// Returns the string values of a document, or `None` if a part of the text can't be read.
 pub(crate) fn strings_in(alloc: Global, source: &str) -> Result<Option<Vec<StringAt>>, AllocError>
     ensures { IfOk result (λ found. IfSome found
         (λ found. spec.strings_in source.now ≡ Some (map spelled_of found.items))) }
@@ -65,7 +65,9 @@ fn all_strings(alloc: Global, source: &str) -> Result<Vec<StringAt>, ParseError>
 }
 
 impl Scanner {
-    /// Reads the next token at `text`, and returns the text after it.
+    /// Reads the next part of the document, with which `text` begins, and returns the text after it. With no
+    /// bracket open, the part is a header, or a key and its value. Otherwise it is read as by
+    /// [`Scanner::item`] or [`Scanner::member`].
     fn step<'s>(&mut self, alloc: Global, text: &'s str) -> Result<&'s str, ParseError>
         ensures reads { IfOk result (λ rest. spec.step (scanner_of self.old) text.now
             ≡ Some (scanner_of self.new, rest.now)) }

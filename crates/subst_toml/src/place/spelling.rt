@@ -65,8 +65,8 @@ pub(crate) fn without_newline(content: &str, style: Style) -> &str {
     }
 }
 
-/// Returns the rest of `text` after the spelling of the string's next `len` bytes, or `None` if `text` ends
-/// before that.
+/// Returns the rest of `text` after the spelling of the string's next `len` bytes. The result is `None` if
+/// `text` ends before that, or if an escape in the spelling is invalid.
 pub(crate) fn after_spelling(text: &str, len: usize, style: Style) -> Option<&str> {
     let mut rest = text;
     let mut left = len;

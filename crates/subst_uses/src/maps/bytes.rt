@@ -81,7 +81,7 @@ pub fn index_map_of_borrowed<V: AsSlice<u8>, S: BuildHasher>(
     substitute_bytes(alloc, source, variables)
 }
 
-/// Expands bytes without variables, so that every default is used.
+/// Expands bytes with every variable unset, so that every default is used.
 pub fn no_substitution(alloc: Global, source: &[u8]) -> Result<Vec<u8>, Error>
     ensures { IfSome (answer_of (λ output. output.items) result)
         (Answers source.now (λ _. None)) }
@@ -97,7 +97,7 @@ pub fn env(alloc: Global, source: &[u8], variables: &Env) -> Result<Vec<u8>, Err
     substitute_bytes(alloc, source, variables)
 }
 
-/// Expands bytes from pairs, and from a map for the names that no pair sets.
+/// Expands bytes from the pairs of an `Env`. A name that no pair sets is looked up in `defaults`.
 pub fn layered<V: AsSlice<u8>>(
     alloc: Global,
     source: &[u8],

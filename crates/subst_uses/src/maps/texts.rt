@@ -91,7 +91,7 @@ pub fn index_map_of_borrowed<V: AsStr, S: BuildHasher>(
     substitute(alloc, source, variables)
 }
 
-/// Expands a text without variables, so that every default is used.
+/// Expands a text with every variable unset, so that every default is used.
 pub fn no_substitution(alloc: Global, source: &str) -> Result<String, Error>
     ensures { IfSome (answer_of (λ output. string_bytes output) result)
         (Answers source.now (λ _. None)) }
@@ -107,7 +107,7 @@ pub fn env(alloc: Global, source: &str, variables: &Env) -> Result<String, Error
     substitute(alloc, source, variables)
 }
 
-/// Expands a text from pairs, and from a map for the names that no pair sets.
+/// Expands a text from the pairs of an `Env`. A name that no pair sets is looked up in `defaults`.
 pub fn layered<V: AsStr>(
     alloc: Global,
     source: &str,
