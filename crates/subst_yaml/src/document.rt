@@ -56,7 +56,7 @@ where
     fill_in_by(alloc, source, &Filler { variables })
 }
 
-/// Fills in the values of a text of YAML, from bytes, as [`fill_in`].
+/// Reads a text of YAML from bytes, and fills in its values, as [`fill_in`].
 ///
 /// # Errors
 ///

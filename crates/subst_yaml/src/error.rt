@@ -125,8 +125,8 @@ impl fmt::Display for Error {
 
     ghost output = { display_of_yaml };
 
-    // The clause `text` also covers an error that quotes a character past ASCII, which is displayed in one of
-    // two forms.
+    // The clause `text` also covers an error that quotes a character that isn't ASCII. Such a character may
+    // be escaped or not.
     fn fmt<W: fmt::Write>(&self, f: &mut fmt::Formatter<W>) -> fmt::Result
         ensures writes { DisplaysOnOk W.write_str_gives f.old result
             (display_of_yaml self.now) f.new }

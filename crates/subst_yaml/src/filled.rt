@@ -27,7 +27,8 @@ struct Output {
     done: usize,
 }
 
-/// Appends the source from the last changed value to `span`, and then `value`, the new token at `span`.
+/// Appends the bytes of the source between the last changed value and `span`, and then `value`, the new token
+/// at `span`.
 ///
 /// # Errors
 ///
@@ -86,7 +87,7 @@ fn fill_in_event<F: Fill>(
     }
 }
 
-/// Returns a text with its values filled in, or `None` if none of them changes.
+/// Returns a text with its values filled in, or `None` if no value changes.
 ///
 /// # Errors
 ///

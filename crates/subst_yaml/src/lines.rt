@@ -1,7 +1,7 @@
 //! Spells values over several lines. Such a value keeps its lines if each line can be filled in by itself.
 //!
-//! No contract states how tokens are spelled. A token filled in by lines is used only if it is read as the
-//! value, and the output is compared with the source.
+//! No contract states how tokens are spelled. A token that is filled in line by line is used only if it is
+//! read as the value. The output is also compared with the source.
 
 use crate::change::{Change, change_of, string_of};
 use crate::spell::{
@@ -76,7 +76,7 @@ fn fits_lines(place: Place<'_>, value: &str, token: &[u8]) -> bool {
 }
 
 /// Returns the token at `place` with each line filled in by itself. The result is `None` if the token has
-/// only one line, or if a line can't be filled in by itself.
+/// only one line or the style `|`, or if a line can't be filled in by itself.
 fn filled_by_lines<F: Fill>(
     alloc: Global,
     place: Place<'_>,
@@ -92,7 +92,7 @@ fn filled_by_lines<F: Fill>(
     }
 }
 
-/// Returns the change of `words`, a part of a line, or `None` if `filler` refuses `words`.
+/// Returns the change of `words` in a line, or `None` if `filler` refuses `words`.
 fn change_in_line<F: Fill>(
     alloc: Global,
     style: Style,
@@ -111,7 +111,7 @@ fn change_in_line<F: Fill>(
 }
 
 /// Returns the token at `place`, quoted or not, with each line filled in. Returns `None` if a line can't be
-/// filled in by itself.
+/// filled in by itself, or if the token isn't UTF-8 or lacks a quote.
 fn filled_words<F: Fill>(
     alloc: Global,
     place: Place<'_>,
@@ -182,7 +182,7 @@ fn append_line<F: Fill>(
 }
 
 /// Returns the token at `place`, which has the style `>`, with each line filled in. Returns `None` if a line
-/// can't be filled in by itself.
+/// can't be filled in by itself or isn't UTF-8, or if the token doesn't end with a line feed.
 fn filled_block<F: Fill>(
     alloc: Global,
     place: Place<'_>,

@@ -14,11 +14,11 @@ use subst_yaml_reader::{Bracket, Event, Span};
 /// A step of a path, before its key is copied from the text.
 #[derive(Clone, Copy)]
 pub(crate) enum StepAt {
-    /// To the value of the key whose token is at this span.
+    /// The step to the value of the key whose token is at this span.
     Key(Span),
-    /// To the item at an index of a sequence without brackets.
+    /// The step to the item at an index of a sequence without brackets.
     Item(usize),
-    /// To the item at an index of a sequence in brackets.
+    /// The step to the item at an index of a sequence in brackets.
     Member(usize),
 }
 
@@ -120,7 +120,7 @@ impl Trail {
         }
     }
 
-    /// Begins the path of the next document, which has no steps.
+    /// Moves the path on to the next document, and removes all steps.
     fn begin(&mut self) -> Result<(), AllocError>
         ensures { IfOk result (λ _. trail_of self.new ≡ begun (trail_of self.old)) }
     {

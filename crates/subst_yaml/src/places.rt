@@ -50,8 +50,8 @@ impl RangeFinder {
         }
     }
 
-    /// Returns the byte ranges in `source` that spell these ranges of one of its strings, as [`places_in`]
-    /// does. The finder has to be created for the same `source`.
+    /// Returns the byte ranges in `source` that spell `ranges` of one of its strings, as [`places_in`] does.
+    /// The finder has to be created for the same `source`.
     ///
     /// # Errors
     ///
@@ -139,7 +139,8 @@ fn find_scalar(events: &[Event], from: usize, token: &Range<usize>) -> Option<(u
     }
 }
 
-/// Returns the first value, from an index on, whose token is at a range, and the index of its event.
+/// Searches the events, from the index `from` on, for the first value whose token is at the range `token`.
+/// Returns the index of its event, and its style and indentation.
 fn scalar_from(events: &[Event], from: usize, token: &Range<usize>) -> Option<(usize, Scalar)>
     ensures { IfSome result (λ found. (in_flow : Bool)
         × Contains events.now (value_at token.now found.1.style in_flow found.1.indent)) }
@@ -165,7 +166,7 @@ fn scalar_from(events: &[Event], from: usize, token: &Range<usize>) -> Option<(u
 struct AllFound {
     /// The byte ranges in the text, one for each range of the string.
     places: Vec<Range<usize>>,
-    /// The range of the string that each place spells, without a line break at its end.
+    /// The range spelled at each place: the searched range of the string, without a line break at its end.
     short: Vec<Range<usize>>,
 }
 
@@ -232,8 +233,8 @@ fn is_white_space(bytes: &[u8]) -> bool
     bytes.iter().all(|byte| is_white(*byte))
 }
 
-/// Returns whether `short` is `range`, or `range` without white space at its end. `range` also has to be in
-/// the string.
+/// Returns whether `short` is `range`, or `range` with white space cut off at its end. `range` also has to be
+/// in the string.
 fn is_shortened(string: &[u8], range: &Range<usize>, short: &Range<usize>) -> bool
     ensures { IsTrue result → IsShortened string.now range.now short.now }
 {
@@ -264,8 +265,9 @@ fn append_part(
     Ok(true)
 }
 
-/// Appends a text from an offset to the end of a range, with the sentinel at both ends of the range. Returns
-/// `false` if the offset and the range aren't in order in the text.
+/// Appends the part of a text between `from` and the end of `range`, with the sentinel at both ends of
+/// `range`. Returns `false` if `range` begins before `from`, ends before it begins, or ends past the text's
+/// end.
 ///
 /// # Errors
 ///
@@ -291,8 +293,8 @@ fn append_range(
     Ok(true)
 }
 
-/// Returns a text from one offset to another, with the sentinel at both ends of each range. The result is
-/// `None` if the ranges aren't in order between the two offsets.
+/// Returns the part of a text between `from` and `to`, with the sentinel at both ends of each range. The
+/// result is `None` if the ranges aren't in order between `from` and `to`, or if `to` is past the text's end.
 ///
 /// # Errors
 ///
@@ -357,16 +359,17 @@ fn is_confirmed(
     }
 }
 
-/// Returns the byte range in `source`, a text of YAML, that spells a range of one of its strings.
+/// Returns the byte range in `source` that spells a range of one of its strings.
 ///
-/// `token` is the byte range in `source` of the string's token with its quotes, as
-/// [`strings`](crate::strings) returns it. `range` is in byte offsets of the string. The result begins where
-/// the first character of the range is spelled, after the indentation of the line, and ends after the last
-/// character. If `range` ends in a line break, the result ends where the line does.
+/// `source` is a text of YAML. `token` is the byte range in `source` of the string's token with its quotes,
+/// as [`strings`](crate::strings) returns it. `range` is in byte offsets of the string. The result begins
+/// where the first character of the range is spelled, after the indentation of the line, and ends after the
+/// last character. If `range` ends in a line break, the result ends where the line does.
 ///
-/// The result is `None` if no value has this token, or if the range:
+/// The result is `None` if no value's token is at `token`, or if the range:
 ///
-/// - has an end past the string's end or within a character;
+/// - begins or ends within a character;
+/// - ends past the string's end;
 /// - begins within a line break;
 /// - ends before it begins.
 ///
@@ -385,12 +388,13 @@ pub fn place_in(
     finder.find_one(alloc, source, token, range)
 }
 
-/// Returns the byte ranges in `source`, a text of YAML, that spell these ranges of one of its strings.
+/// Returns the byte ranges in `source` that spell `ranges` of one of its strings.
 ///
-/// `token` is the byte range in `source` of the string's token with its quotes. `ranges` are in byte offsets
-/// of the string, in order and without overlaps. For each range the result is that of [`place_in`], but the
-/// token is read only once. The result is `None` if [`place_in`] returns `None` for a range, or if ranges
-/// overlap. For several strings of a text, use a [`RangeFinder`], which reads the text once.
+/// `source` is a text of YAML. `token` is the byte range in `source` of the string's token with its quotes.
+/// `ranges` are in byte offsets of the string, in order and without overlaps. For each range the result is
+/// that of [`place_in`], but the token is read only once. The result is `None` if [`place_in`] returns `None`
+/// for a range, or if ranges overlap. For several strings of a text, use a [`RangeFinder`], which reads the
+/// text once.
 ///
 /// # Errors
 ///

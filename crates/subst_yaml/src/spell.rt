@@ -5,14 +5,14 @@ use crate::token::{header_rest, line_of};
 use std::alloc::AllocError;
 use subst_yaml_reader::Style;
 
-/// The old token of a value that changes, and how it is written.
+/// The old token of a value that changes, with its style and indentation.
 #[derive(Clone, Copy)]
 pub(crate) struct Place<'t> {
     /// The style in which the value was written.
     pub(crate) style: Style,
     /// Whether the value is in brackets.
     pub(crate) in_flow: bool,
-    /// The number of spaces before each line of a value after `|` or `>`.
+    /// The number of spaces before each line, if the value is written after `|` or `>`.
     pub(crate) indent: usize,
     /// The value's old token.
     pub(crate) token: &'t [u8],
@@ -74,7 +74,7 @@ fn is_bracket(byte: u8) -> bool {
     matches!(byte, b',' | b'[' | b']' | b'{' | b'}')
 }
 
-/// Returns whether a value may be written without quotes, as far as its start decides that.
+/// Returns whether a value may be written without quotes, as far as this depends on its start.
 fn begins_plain(value: &[u8]) -> bool {
     if value.starts_with(b"---") || value.starts_with(b"...") {
         return false;
@@ -91,7 +91,7 @@ fn begins_plain(value: &[u8]) -> bool {
     }
 }
 
-/// Returns whether a value may be written without quotes, as far as its end decides that.
+/// Returns whether a value may be written without quotes, as far as this depends on its end.
 fn ends_plain(value: &[u8]) -> bool {
     match value {
         [] => false,
@@ -126,9 +126,9 @@ fn sign_of(token: &[u8]) -> Option<u8> {
     }
 }
 
-/// Returns the lines of a block scalar with this value and the header of `token`: the value without its last
-/// line end, if any. The header's sign has to be `-` if the value doesn't end in a line end, and absent if it
-/// does. Otherwise the result is `None`.
+/// Returns the lines that spell `value` in a block scalar with the header of `token`: the value without the
+/// line feed at its end, if any. The result is `None` if the header doesn't fit the value. A value that ends
+/// in a line feed needs a header without a sign. Any other value needs the sign `-`.
 fn lines_of<'v>(value: &'v str, token: &[u8]) -> Option<&'v str> {
     match sign_of(token) {
         Some(b'-') if !value.ends_with("\n") => Some(value),
@@ -137,8 +137,8 @@ fn lines_of<'v>(value: &'v str, token: &[u8]) -> Option<&'v str> {
     }
 }
 
-/// Returns whether lines can be written after `|`, as far as their characters and their first and last line
-/// decide that.
+/// Returns whether lines can be written after `|`, as far as this depends on their characters, the first line
+/// and the last line.
 fn are_lines(lines: &str) -> bool {
     let begins_with_text = match lines.as_bytes() {
         [] => false,
@@ -170,7 +170,7 @@ fn fits_place(value: &str, place: Place<'_>) -> bool {
     fits_block(value, place.token) && (matches!(place.style, Style::Literal) || !has_indented)
 }
 
-/// Appends a value as a block scalar, after the header of `place`.
+/// Appends a value as a block scalar with the header of `place`.
 ///
 /// # Errors
 ///
@@ -191,8 +191,8 @@ pub(crate) fn line_end_of(line: &[u8]) -> &'static str {
     }
 }
 
-/// Appends the lines of a block scalar, with the indentation of `place` and this line end. In the style `>`,
-/// a line end is added before each line that follows a line with text.
+/// Appends the lines of a block scalar, with the indentation of `place` and with `line_end` after each line.
+/// In the style `>`, an extra line end is added before each line that follows a line with text.
 ///
 /// # Errors
 ///

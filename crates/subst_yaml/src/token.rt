@@ -1,4 +1,4 @@
-//! Tokens of a text, and whether the value of one may change.
+//! Tokens of a text, and whether their values may change.
 
 ghost use Rattle.std.specs.Prelude.{◌≡◌, slice_range};
 ghost use Rattle.std.specs.List.{list_any};
@@ -6,7 +6,7 @@ ghost use Rattle.subst_yaml.specs.Filled.{header_rest, is_alias, is_mark, is_sig
 
 use subst_yaml_reader::{Span, Style};
 
-/// Returns the bytes of a text from `start` to `end`, both cut at the end of the text.
+/// Returns the bytes of a text from `start` to `end`, as far as the text has them.
 pub(crate) fn part(text: &[u8], start: usize, end: usize) -> &[u8]
     ensures { result.now ≡ slice_range text.now start end }
 {
@@ -96,14 +96,15 @@ pub(crate) fn line_of(text: &[u8]) -> &[u8]
     &text[..len]
 }
 
-/// Returns the rest of a token's first line, after `|` or `>`, digits and signs: a comment and the line end.
+/// Returns the rest of a token's first line, after `|` or `>` and any digits and signs: a comment, if any,
+/// and the line end.
 pub(crate) fn header_rest(token: &[u8]) -> &[u8]
     ensures { result.now ≡ header_rest token.now }
 {
     line_of(after_signs(part(token, 1, token.len())))
 }
 
-/// Returns the number of the line that contains a byte offset in a text, from 1.
+/// Returns the number of the line that contains a byte offset in a text. The first line has the number 1.
 pub(crate) fn line_at(text: &[u8], position: usize) -> usize {
     let before = part(text, 0, position);
     before

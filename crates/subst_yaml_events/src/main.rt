@@ -1,8 +1,8 @@
 //! Prints the events of documents of YAML: `subst_yaml_events FILE..`.
 //!
-//! A file has documents, each after a line with its length in bytes. Each event of a document is printed on a
-//! line, and then `end`. For a refused document, one line is printed, with the span, the line number and the
-//! reason.
+//! A file has documents, each after a line with its length in bytes. The events of a document are printed on
+//! one line each, followed by a line `end`. For a refused document, one line is printed, with the span, the
+//! line number and the reason.
 #![tactic(auto)]
 
 use shown::shown;
@@ -34,8 +34,8 @@ fn print_events(rt: &HostRuntime, text: &str) -> io::Result<()> {
     Ok(())
 }
 
-/// Returns the first document of a file's text, which follows a line with its length, and the text after it.
-/// The result is `None` if no document is left.
+/// Returns the first document of `text`, and the text after the document. The document follows a line with
+/// its length in bytes. The result is `None` if no such document is left.
 fn next_document(text: &str) -> Option<(&str, &str)> {
     let (len, rest) = text.split_once('\n')?;
     let len = len.parse::<usize>().ok()?;

@@ -59,7 +59,7 @@ const BRACKETS: [Row<'static>; 7] = [
     ("[-, a:b, x y]", "doc [ f:1-2 f:4-7 f:9-12 )"),
 ];
 
-/// Scalars and aliases in each style.
+/// Scalars in each style, and aliases.
 const SCALARS: [Row<'static>; 12] = [
     ("a: b c\n  d\n\n e", "doc k1:0-1 v:3-14"),
     ("a\nb", "doc v:0-3"),
@@ -382,13 +382,13 @@ fn mark(style: Style) -> &'static str {
     }
 }
 
-/// Returns an event's `head`, the mark of its token's style, and the token's span, as a row has them.
+/// Joins an event's `head`, the mark of its token's style, and the token's span, in the notation of a row.
 fn token(alloc: Global, head: &str, style: Style, span: Span) -> Result<String, AllocError> {
     let (mark, Span { start, end }) = (mark(style), span);
     format!(in alloc; "{head}{mark}{start}-{end}")
 }
 
-/// Returns the event of a value as a row has it.
+/// Returns the event of a value in the notation of a row.
 fn value(
     alloc: Global,
     style: Style,
@@ -403,7 +403,7 @@ fn value(
     }
 }
 
-/// Returns an event as a row has it.
+/// Returns an event in the notation of a row.
 fn sketch(alloc: Global, event: &Event) -> Result<String, AllocError> {
     match *event {
         Event::Document => String::from_str(alloc, "doc"),

@@ -31,7 +31,8 @@ pub(crate) struct Case<'t> {
     pub(crate) rest: &'t str,
 }
 
-/// Returns the first document of a file's text and the text after it, or `None` if no document is left.
+/// Returns the first document in `text` and the text after the document. The result is `None` if the document
+/// is incomplete, or if the lines about it are missing or wrong.
 pub(crate) fn next_case(alloc: Global, text: &str) -> Result<Option<Case<'_>>, AllocError> {
     let Some((head, mut rest)) = text.split_once('\n') else {
         return Ok(None);
@@ -66,8 +67,8 @@ pub(crate) fn next_case(alloc: Global, text: &str) -> Result<Option<Case<'_>>, A
     Ok(Some(Case { case, rest }))
 }
 
-/// Reads the line before a document and its variables: the document's length, the syntax of its variables,
-/// and their number. The result is `None` for any other line.
+/// Reads the line about a document: the document's length, the syntax of its variables, and their number. The
+/// result is `None` for any other line.
 fn head_of(line: &str) -> Option<(usize, Written, usize)> {
     let (len, rest) = line.split_once(' ')?;
     let (written, count) = rest.split_once(' ')?;

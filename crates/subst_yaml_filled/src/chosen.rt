@@ -19,7 +19,7 @@ pub(crate) struct Chosen<'r, 't> {
     pub(crate) values: &'r BTreeMap<&'t str, String>,
 }
 
-/// Creates the error that every refused text has, whatever is wrong with it.
+/// Creates a fixed error for refused texts, whatever is wrong with them.
 fn refused() -> Error
     ensures { error_fault result ≡ Some (faults.MissingVariableName 0 0) }
 {

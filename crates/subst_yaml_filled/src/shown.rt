@@ -6,8 +6,8 @@ use std::alloc::{AllocError, Global};
 use subst_foreign::{Forms, OnlyNames};
 use subst_yaml::{Error, fill_in, fill_in_by, refusals_in};
 
-/// Returns a document's output or the text of its error, preceded by a line with the kind and the length of
-/// this text.
+/// Returns a line with a kind and a length, and then a text of that length: a document's output or its
+/// error's text.
 pub(crate) fn shown(alloc: Global, document: &Document<'_>) -> Result<String, AllocError> {
     let filled = match document.written {
         Written::All => fill_in(alloc, document.text, &document.values),

@@ -68,9 +68,9 @@ open_bracket properties b s rest = do
   both ← joined s.pending properties
   after_token rest (with_next next.Member (opened (bracket_of b) s))
 
--- The column of a block scalar's lines: `column`, where its collection is, plus the header's `digit`. If
--- `digit` is 0, the lines are at `spaces`, the number of spaces before the first line, but at least at
--- `column` + 1.
+-- The column of the lines of a block scalar in a collection at `column`. It is the sum of `column` and the
+-- header's `digit`. If `digit` is 0, it is `spaces`, but at least `column` + 1. `spaces` is the number of
+-- spaces at the start of the first line that isn't empty. A sum over 2^64 - 1 is replaced by 2^64 - 1.
 abbrev pub block_indent : (column digit spaces : ℕ) → ℕ
 block_indent column digit spaces =
     if nat_lt 0 digit then min (column + digit) (2 ^ 64 - 1) else max (min (column + 1) (2 ^ 64 - 1)) spaces
@@ -79,9 +79,10 @@ block_indent column digit spaces =
 abbrev pub spaces_of : List ℕ → ℕ
 spaces_of text = length text - length (after_spaces text)
 
--- Whether a block scalar is refused because the column of its lines is unclear. That is so if the line at the
--- start of `first` has only spaces, one or more. It is also so if the header's `digit` is 0 and the first
--- byte of `first` that isn't a space is a tab.
+-- Whether a block scalar is refused because the column of its lines is unclear. `first` is the text after the
+-- header's line, without the empty lines at its start. The column is unclear if the first line of `first`
+-- consists of one or more spaces. It is also unclear if the header's `digit` is 0 and the first byte of
+-- `first` that isn't a space is a tab.
 abbrev pub is_unclear : (digit : ℕ) → List ℕ → Bool
 is_unclear digit first = (nat_lt 0 (spaces_of first) && is_line_over (after_spaces first))
     || (digit == 0 && begins tab (after_spaces first))
@@ -98,18 +99,18 @@ lines_from column digit keep head first = if is_unclear digit first then None el
   block_end (block_indent column digit (spaces_of first)) keep head first,
 )
 
--- The column of a block scalar's lines, and the text after the lines. The scalar is in a collection at
--- `column`. The tuple is the scalar's header: a digit or 0, whether the sign is `+`, and the text from the
--- line end on.
+-- The column of a block scalar's lines, and the text after the lines, or `None` if the column is unclear. The
+-- scalar is in a collection at `column`. The tuple is the header: its digit, or 0 if it has none; whether its
+-- sign is `+`; and the text from the line end on.
 unfoldable pub block_lines : (column : ℕ) → ℕ × Bool × List ℕ → Option (ℕ × List ℕ)
 block_lines column (digit, keep, head) = lines_from column digit keep head (after_line_ends head)
 
--- the style of a block scalar whose first byte is b, `|` or `>`
+-- the style of a block scalar whose first byte b is `|` or `>`
 abbrev pub block_style : ℕ → Style
 block_style b = if b == vertical_bar then style.Literal else style.Folded
 
--- A turn at a block scalar from `text` on, which is the byte b and then `rest`. A whole document can't be a
--- block scalar.
+-- A turn at the block scalar at the start of `text`, where `text` is the byte b followed by `rest`. A whole
+-- document can't be a block scalar.
 unfoldable pub block_scalar : Properties → ℕ → State → (rest text : List ℕ) → Turn
 block_scalar properties b s rest text = do
   column ← outer_column s
@@ -129,7 +130,7 @@ opened_for (Open column) s = Some (push_block Mapping column s)
 opened_for Entry s = Some s
 opened_for Inline s = None
 
--- a turn at a key, from `text` to `rest`, and its colon
+-- a turn at a key and its colon; the key is from `text` to `rest`
 unfoldable pub key : Role → Style → State → (text rest : List ℕ) → Turn
 key role style s text rest = do
   t ← opened_for role s
@@ -140,8 +141,9 @@ key role style s text rest = do
 abbrev pub value_end : State → Style → (rest : List ℕ) → List ℕ
 value_end s style rest = if is_plain style then after_plain_lines (length rest + 1) (outer_column s) rest else rest
 
--- A scalar or an alias, from `at` to `rest`: a key if a colon follows, and otherwise a value. Its anchor and
--- tag are from `text` to `at`.
+-- A turn at a scalar or an alias, from `at` to `rest`: at a key if a colon follows, and otherwise at a value.
+-- If the value is unquoted, `rest` is the text after its first line. The node's anchor and tag are from
+-- `text` to `at`.
 abbrev pub keyed_or_value : Role → Properties → State → (text at : List ℕ) → Style × List ℕ → Turn
 keyed_or_value role properties s text at (style, rest) =
     if colon_follows false style (after_blanks rest)
@@ -155,8 +157,8 @@ scalar_node role properties s text at = do
   found ← scalar false at
   keyed_or_value role properties s text at found
 
--- The content of a node, after its anchor and tag, which begin at `text`. A node of the role `Entry` can't be
--- a collection or a block scalar.
+-- A turn at the content of a node, from `at` on. The node's anchor and tag are from `text` to `at`. A node of
+-- the role `Entry` can't be a collection or a block scalar.
 unfoldable pub content : Role → Properties → State → (text at : List ℕ) → Turn
 content role properties s text [] = None
 content role properties s text (b ∷ rest) =
@@ -166,7 +168,8 @@ content role properties s text (b ∷ rest) =
     then (if is_entry role then None else block_scalar properties b s rest (b ∷ rest))
     else scalar_node role properties s text (b ∷ rest)
 
--- A turn at an anchor and a tag alone on their line, which belong to the next value.
+-- A turn at an anchor, a tag or both, with no content after them on their line. They belong to the next
+-- value.
 abbrev pub properties_alone : Role → Properties → Spot → State → Turn
 properties_alone role properties spot s = if is_entry role then None else do
   both ← joined s.pending properties
@@ -215,7 +218,7 @@ taken blocks (Some n) = take n blocks
 abbrev pub without_deeper : (column : ℕ) → List Collection → List Collection
 without_deeper column blocks = taken blocks (first_deeper column blocks)
 
--- the collections without the innermost one if it is a sequence at `column`, and `is_item` is false
+-- the collections, where the innermost one is left out if it is a sequence at `column` and `is_item` is false
 abbrev pub without_sequence : (column : ℕ) → (is_item : Bool) → List Collection → List Collection
 without_sequence column is_item blocks =
     if not is_item && is_sequence_at column (innermost blocks) then take (length blocks - 1) blocks else blocks
@@ -228,8 +231,9 @@ abbrev pub is_value : Next → Bool
 is_value next.Value = true
 is_value _ = false
 
--- A value may begin at `column`: a value is expected, and `column` is past the innermost collection's. An
--- item may also begin at the innermost collection's own column, if that collection is a mapping.
+-- A value may begin at `column`: a value is expected, and `column` is past the column of the innermost
+-- collection, if there is one. The two columns may also be equal if that collection is a mapping and the
+-- value begins with `- ` (`is_item`).
 abbrev pub may_open : (column : ℕ) → (is_item : Bool) → State → Bool
 may_open column is_item s = is_value s.next
     && (is_past (outer_column s) column || (is_item && is_mapping_at column (innermost s.blocks)))

@@ -1,4 +1,4 @@
--- Classes of bytes and characters. A text is the list of the bytes that are left.
+-- Classes of bytes and characters. A text is the list of the bytes that are left to read.
 use Rattle.std.specs.Prelude.{ℕ, ◌==◌, ◌&&◌, ◌||◌, Bool, false, true, not, slice_index, List, [], ◌∷◌, nat_lt}
 use Rattle.std.specs.Char.{is_ascii_alphanumeric}
 

@@ -96,8 +96,9 @@ abbrev pub without_end : List ℕ → List ℕ
 without_end bytes =
     if is_ended (slice_get bytes (length bytes - 1)) then take (length bytes - 1) bytes else bytes
 
--- The value of a block scalar in the style `|`, from the parts of its header. `text` is the text after the
--- `|`. If the sign in the header is `-`, the last line feed is left out.
+-- The value of a block scalar in the style `|`. `text` is the text after the `|`, and `head` is the part of
+-- `text` from the end of the header's line on. If the sign in the header is `-`, the line feed at the end of
+-- the value is left out.
 abbrev pub lines_after : (indent : ℕ) → List ℕ → ℕ × Bool × List ℕ → List ℕ
 lines_after indent text (digit, keep, head) =
     if begins hyphen (digit_at text).1

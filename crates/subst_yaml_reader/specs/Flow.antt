@@ -50,8 +50,8 @@ is_flow_key properties style s text rest =
 abbrev pub keyed : Style → Span → State → State
 keyed style span s = with_next next.Value (emit (FlowKey style span) s)
 
--- A turn at the colon after a key. `rest` is the text from the colon on. In a sequence, a pair begins with
--- the key
+-- A turn at a key and the colon after it. `rest` is the text from the colon on. In a sequence, the key begins
+-- a pair
 unfoldable pub flow_key : Style → Span → State → (rest : List ℕ) → Turn
 flow_key style span s rest = if not (is_member s.next) then None
     else after_token (after_byte colon rest) (keyed style span (if is_in Mapping s then s else opened Pair s))
@@ -61,7 +61,8 @@ flow_key style span s rest = if not (is_member s.next) then None
 unfoldable pub lone_key : Style → Span → State → (rest : List ℕ) → Turn
 lone_key style span s rest = after_token rest (with_next next.Done (emit Null (keyed style span s)))
 
--- A scalar or an alias from `at` to `rest`, as a key or a value. Its anchor and tag are from `text` on.
+-- A turn at a scalar or an alias, from `at` to `rest`. The node is a key if a colon follows or a key of a
+-- mapping is expected; otherwise it is a value. The node's anchor and tag are from `text` to `at`.
 unfoldable pub flow_scalar : Properties → Style → State → (text at rest : List ℕ) → Turn
 flow_scalar properties style s text at rest =
     if colon_follows true style (after_blanks rest) || is_key_due s
@@ -77,8 +78,8 @@ scalar_in_flow properties s text at = do
   found ← scalar true at
   flow_scalar properties found.0 s text at found.1
 
--- The content of a node in brackets, from `at` on: a scalar, an alias, or a collection, which can't be a key.
--- Its anchor and tag are from `text` to `at`.
+-- The content of a node in brackets, from `at` on: a scalar, an alias, or a collection. A collection can't be
+-- a key. The node's anchor and tag are from `text` to `at`.
 unfoldable pub flow_content : Properties → State → (text at : List ℕ) → Turn
 flow_content properties s text [] = scalar_in_flow properties s text []
 flow_content properties s text (b ∷ rest) =
@@ -86,8 +87,8 @@ flow_content properties s text (b ∷ rest) =
     then (if is_key_due s then None else open_bracket properties b s rest)
     else scalar_in_flow properties s text (b ∷ rest)
 
--- in brackets, no node follows an anchor or a tag on its line. This is so if the text after it is on another
--- line (`fresh`), or begins with `,`, `]` or `}`
+-- this text, which follows an anchor or a tag in brackets, begins no node on the same line. The text is on
+-- another line (`fresh`), or begins with `,`, `]` or `}`
 abbrev pub is_node_over : (fresh : Bool) → List ℕ → Bool
 is_node_over fresh text = fresh || begins comma text || begins closing_square text || begins closing_curly text
 
@@ -122,8 +123,8 @@ next_entry s rest = do
   t ← ended s
   after_token rest (with_next next.Member t)
 
--- the state before a closing bracket, where the last entry ends, or `None` if that entry can't end here.
--- After the opening bracket or the last comma, the entry may be missing
+-- the state after the last entry before a closing bracket, or `None` if that entry can't end here. After the
+-- opening bracket or a comma, the entry may be missing
 unfoldable pub closing : State → Option State
 closing s = if is_member s.next && not (has_any s.pending) then Some s else ended s
 

@@ -2,7 +2,7 @@
 use Rattle.subst_yaml_reader.specs.State.{State}
 use Rattle.subst_yaml_reader.specs.declared.reader.Reader.{Reader}
 
--- the state in the definitions' terms
+-- the `State` that corresponds to a reader in the code
 abbrev pub state_of : Reader → State
 state_of r = record {
   size = r.size;

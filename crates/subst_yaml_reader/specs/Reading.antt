@@ -18,7 +18,8 @@ turn s text = elim (innermost s.brackets) [ None ↦ block_turn s text | Some br
 unfoldable pub finish : State → Option (List Event)
 finish s = elim (innermost s.brackets) [ None ↦ Some [] | Some bracket ↦ None ]
 
--- the events of a text from a token on, in at most this many turns: the events of each turn, concatenated
+-- the events of a text from a token on: those of each turn, concatenated. The result is `None` if the text is
+-- refused, or if reading it takes `turns` turns or more
 unfoldable pub events_from : (turns : ℕ) → State → List ℕ → Option (List Event)
 events_from zero s text = None
 events_from (suc turns) s [] = finish s
@@ -53,8 +54,8 @@ begun directive next =
     if is_at_line directive && is_at_line next && is_mark_of_three hyphen next.1 then next else directive
 
 -- The token `---` after a directive `%YAML 1.1` or `%YAML 1.2`, with only comments and empty lines between
--- them. If the directive or the `---` is missing, the result is the argument. A token is a pair: the length
--- of the text from the start of the token's line on, and the text from the token on.
+-- them. If the directive or the `---` is missing or doesn't begin a line, the result is the argument. A token
+-- is a pair: the length of the source from the start of the token's line on, and the text from the token on.
 unfoldable pub after_directive : ℕ × List ℕ → ℕ × List ℕ
 after_directive (line, text) = elim (directive_end text) [
   | None ↦ (line, text)

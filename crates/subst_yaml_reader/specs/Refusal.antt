@@ -5,14 +5,15 @@ use Rattle.subst_yaml_reader.specs.declared.error.Error.{Error}
 use Rattle.subst_yaml_reader.specs.declared.error.Error.TheVariants.{Refused, OutOfMemory}
 use Rattle.subst_yaml_reader.specs.declared.event.Event.{Event}
 
--- the span of a refusal is in the text, and its line, from 1, is the line on which the span begins
+-- the span of a refusal is in the text, and the refusal's `line` is the number, from 1, of the line on which
+-- the span begins
 abbrev pub IsInside : Error → List ℕ → Type 0
 IsInside (Refused fault) text = (fault.span.start ≤ fault.span.«end») × (fault.span.«end» ≤ length text)
     × (fault.line ≡ count_by (λ b. b == line_feed) (take fault.span.start text) + 1)
 IsInside OutOfMemory text = Unit {0}
 
--- The error is right for a text and its events. If it is a refusal, the text has no events, and the span is
--- in the text. If memory ran out, nothing is stated.
+-- The error is right for a text and its events. If it is a refusal, `events` is `None`, and the span is in
+-- the text. If memory ran out, nothing is stated.
 abbrev pub IsRefused : Error → List ℕ → Option (List Event) → Type 0
 IsRefused (Refused fault) text events = (events ≡ None) × IsInside (Refused fault) text
 IsRefused OutOfMemory text events = Unit {0}

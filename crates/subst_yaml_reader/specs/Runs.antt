@@ -5,7 +5,7 @@ use Rattle.subst_yaml_reader.specs.Bytes.{begins, is_blank, is_bracket, is_docum
 use Rattle.subst_yaml_reader.specs.declared.runs.Escape.{Escape}
 use Rattle.subst_yaml_reader.specs.declared.runs.Escape.TheVariants.{Nothing, Escaped, Digits}
 
--- every reader accepts all characters of the text
+-- every YAML reader accepts all characters of the text
 unfoldable pub is_text : List ℕ → Bool
 is_text [] = true
 is_text (b ∷ rest) = elim (is_foreign b rest) [ true ↦ false | false ↦ is_text rest ]
@@ -52,9 +52,9 @@ line_part comments in_comment b =
     else Stops
 
 -- The next token of a text that begins in the indentation of a line. The result is a pair: the length of the
--- text from the start of the token's line on, and the text from the token on. Empty lines are skipped, and so
--- are comments if `comments`. `line` is the number of bytes from the start of the line in which the text
--- begins to the end of the source. `in_comment` is whether the text begins in a comment.
+-- source from the start of the token's line on, and the text from the token on. Empty lines are skipped, and
+-- so are comments if `comments`. `line` is the length of the source from the start of the line in which the
+-- text begins. `in_comment` is whether the text begins in a comment.
 unfoldable pub after_lines : (comments in_comment : Bool) → (line : ℕ) → List ℕ → ℕ × List ℕ
 after_lines comments in_comment line [] = (line, [])
 after_lines comments in_comment line (b ∷ rest) =
@@ -132,8 +132,9 @@ with_digit left value digit =
     else if is_surrogate (value * 16 + digit) then None
     else Some Nothing
 
--- the state of an escape after the byte b in double quotes, or `None` if b is wrong in this state or before
--- `rest`. The definition is for bytes that don't close the quotes
+-- the state of an escape after the byte b in double quotes, or `None` if b is wrong in this state. The result
+-- is also `None` if b is a line feed and `rest`, the text after b, begins with a document mark. The
+-- definition is for bytes that don't close the quotes
 abbrev pub escape_after : Escape → ℕ → (rest : List ℕ) → Option Escape
 escape_after Nothing b rest = if breaks b rest then None else Some (if b == backslash then Escaped else Nothing)
 escape_after Escaped b rest =
@@ -147,8 +148,9 @@ abbrev pub closes : Escape → ℕ → Bool
 closes Nothing b = b == double_quote
 closes _ b = false
 
--- the text after the closing double quote of a text that begins in the quotes, in the state `held` of an
--- escape; `None` if the quotes aren't closed or an escape is wrong
+-- the text after the closing double quote. The argument begins inside the quotes, in the state `held` of an
+-- escape. The result is `None` if the quotes aren't closed, if an escape in them is wrong, or if a line in
+-- them begins with a document mark
 unfoldable pub after_double : Escape → List ℕ → Option (List ℕ)
 after_double held [] = None
 after_double held (b ∷ rest) =

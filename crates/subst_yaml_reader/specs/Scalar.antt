@@ -12,8 +12,8 @@ infixl 10 ◌>>=◌
 abbrev pub ◌>>=◌ : {A B : Type 0} → Option A → (A → Option B) → Option B
 o >>= f = option_and_then f o
 
--- the position of a token: whether it is the first on its line, the length of the text from the line's start
--- on, and the text from the token on
+-- the position of a token. The first part is whether the token is the first on its line. The second is the
+-- length of the source from the line's start on. The third is the text from the token on
 abbrev pub Spot : Type 0
 Spot = Bool × ℕ × List ℕ
 
@@ -35,8 +35,8 @@ after_gap line text =
     then first_of (after_lines true false 0 (after_blanks text))
     else (false, line, after_blanks text)
 
--- A name may end before this text: before white space or the end. In brackets (`in_flow`), the name of an
--- anchor or an alias may also end before `,`, `]` or `}`.
+-- A name may end before this text if the text is empty or begins with white space. In brackets (`in_flow`),
+-- the name of an anchor or an alias may also end before `,`, `]` or `}`.
 abbrev pub is_name_over : (in_flow in_tag : Bool) → List ℕ → Bool
 is_name_over in_flow in_tag text = is_apart text
     || (in_flow && not in_tag && (begins comma text || begins closing_square text || begins closing_curly text))
@@ -71,8 +71,8 @@ abbrev pub joined : Properties → Properties → Option Properties
 joined p q = if (p.anchor && q.anchor) || (p.tag && q.tag) then None
     else Some (record { anchor = p.anchor || q.anchor; tag = p.tag || q.tag })
 
--- the anchor or the tag at the start of the text, and the position of the next token. `line` is the number of
--- bytes from the start of the line in which the text begins to the end of the source
+-- the anchor or the tag at the start of the text, and the position of the next token. `line` is the length of
+-- the source from the start of the line in which the text begins
 unfoldable pub one_property : (in_flow : Bool) → (line : ℕ) → List ℕ → Option (Properties × Spot)
 one_property in_flow line text = do
   rest ← property in_flow text
@@ -93,8 +93,9 @@ node_properties in_flow line text = if not (is_property text) then Some (no_prop
   first ← one_property in_flow line text
   if first.1.0 || not (is_property first.1.2) then Some first else second_property in_flow line first.0 first.1.2
 
--- Unquoted text may begin with the byte b before `rest`: one that isn't an indicator or white space. White
--- space can't follow `-`, `?` and `:`. In brackets (`in_flow`), `?` and `:` can't begin unquoted text.
+-- The byte b, before `rest`, may begin unquoted text. It isn't an indicator or white space. If it is `-`, `?`
+-- or `:`, neither white space nor the end follows. In brackets (`in_flow`), `?` and `:` can't begin unquoted
+-- text.
 abbrev pub begins_plain : (in_flow : Bool) → ℕ → (rest : List ℕ) → Bool
 begins_plain in_flow b rest =
     if b == hyphen then not (is_apart rest)
@@ -140,14 +141,16 @@ sign_at [] = (false, [])
 sign_at (b ∷ rest) =
     if b == plus_sign then (true, rest) else if b == hyphen then (false, rest) else (false, b ∷ rest)
 
--- the text from its first line end on, or `None` if more than blanks and a comment precedes the line end
+-- the text from its first line end on, or `None` if anything but blanks and a comment precedes the line end.
+-- The comment needs a blank before it
 unfoldable pub line_end_of : List ℕ → Option (List ℕ)
 line_end_of text =
     if is_line_over (after_blanks text) then Some (after_blanks text)
     else if begins hash (after_blanks text) && not (begins hash text) then Some (to_line_end (after_blanks text))
     else None
 
--- the header of a block scalar with this digit, and the sign `+` if `keep`; `text` is the text after both
+-- the header of a block scalar: `digit`, or 0 without one; `keep`, whether the sign is `+`; and the text from
+-- the line end on. `text` is the text after the digit and the sign
 abbrev pub header_of : ℕ → Bool → List ℕ → Option (ℕ × Bool × List ℕ)
 header_of digit keep text = option_map (λ end. (digit, keep, end)) (line_end_of text)
 
@@ -157,8 +160,8 @@ abbrev pub signed_header : ℕ → Bool × List ℕ → Option (ℕ × Bool × L
 signed_header digit (keep, text) =
     if digit == 0 then header_of (digit_at text).0 keep (digit_at text).1 else header_of digit keep text
 
--- The header of a block scalar, from the text after its `|` or `>`. It is the digit or 0, whether the sign is
--- `+`, and the text from the end of the line on. The digit and the sign are in any order, and each may be
--- missing.
+-- The header of a block scalar, from the text after its `|` or `>`. It is a triple: the digit, or 0 without
+-- one; whether the sign is `+`; and the text from the header's line end on. The digit and the sign are in any
+-- order, and each may be missing.
 unfoldable pub header : List ℕ → Option (ℕ × Bool × List ℕ)
 header text = signed_header (digit_at text).0 (sign_at (digit_at text).1)

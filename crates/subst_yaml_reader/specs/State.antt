@@ -14,9 +14,9 @@ use Rattle.subst_yaml_reader.specs.declared.scalar.Properties.{Properties}
 pub record State : Type 0 where
   -- the length of the whole text
   pub size : ℕ
-  -- the length of the text from the start of the token's line on
+  -- the number of bytes from the start of the next token's line to the end of the whole text
   pub line : ℕ
-  -- the token is the first on its line or after `- `, so that a collection may begin at it
+  -- the next token is the first on its line, or the first after `- `, so that a collection may begin at it
   pub fresh : Bool
   -- the tokens that are expected next
   pub next : Next
@@ -29,8 +29,8 @@ pub record State : Type 0 where
   -- the events of the last turn
   pub events : List Event
 
--- the state before the first token of a text of `size` bytes; the text from the start of that token's line on
--- has the length `line`
+-- the state before the first token of a text of `size` bytes. `line` is the number of bytes from the start of
+-- that token's line to the end of the text
 abbrev pub initial : (size line : ℕ) → State
 initial size line = record {
   size = size;

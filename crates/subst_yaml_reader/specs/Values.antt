@@ -49,8 +49,9 @@ between (Some true) is_indented ends = ends
 between (Some false) true ends = ends
 between (Some false) false ends = joined [] ends
 
--- whether the line of the byte b begins with a blank. `before` is the result for the byte before b, and
--- `ends` are the line feeds between both bytes. Without line feeds, the result stays `before`
+-- whether the line of the byte b begins with a blank. `before` is the result for the last byte before b that
+-- isn't a line feed, and `ends` are the line feeds between both bytes. Without line feeds, the result is
+-- `before`
 abbrev pub indented : (before : Option Bool) → (ends : List ℕ) → ℕ → Option Bool
 indented before [] b = before
 indented before (end ∷ ends) b = Some (is_blank b)

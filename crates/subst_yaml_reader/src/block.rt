@@ -82,9 +82,9 @@ fn after_mark(text: &[u8]) -> &[u8]
     }
 }
 
-/// Returns the column of a block scalar's lines: `column`, where its collection is, plus the header's
-/// `digit`. If `digit` is 0, returns `spaces`, the number of spaces at the start of the first line, but at
-/// least `column` + 1.
+/// Returns the column of a block scalar's lines: `column` + `digit`. If `digit` is 0, returns `spaces`, but
+/// at least `column` + 1. The scalar's collection is at `column`. `digit` is the header's digit, or 0 without
+/// one. `spaces` is the number of spaces at the start of the first line.
 fn block_indent(column: usize, digit: usize, spaces: usize) -> usize
     ensures { result ≡ block_indent column digit spaces }
 {
@@ -239,8 +239,9 @@ impl Reader {
         }
     }
 
-    /// Reads an entry of the innermost collection, or refuses it if that collection isn't at this column.
-    /// `outer` is the column of the collection that was innermost before deeper ones were closed.
+    /// Reads an entry of the innermost collection, or refuses the entry if that collection is at another
+    /// column or of another kind. `is_item` is whether the entry begins with `- `. `outer` is the column of
+    /// the collection that was innermost before deeper ones were closed.
     #[tactic(auto, unfolding(crate::specs::Block::entry))]
     #[inline(always)]
     fn entry<'t>(
@@ -472,7 +473,7 @@ impl Reader {
         Ok(self.go_on(rest))
     }
 
-    /// Reads a block scalar from `text` on, which is `byte` and then `rest`.
+    /// Reads a block scalar at the start of `text`, which is `byte` and then `rest`.
     #[tactic(auto, unfolding(crate::specs::Block::block_scalar))]
     fn block_scalar<'t>(
         &mut self,

@@ -4,7 +4,8 @@ ghost use Rattle.std.specs.Prelude.{◌≡◌, slice_index};
 ghost use Rattle.subst_yaml_reader.specs.Bytes.{begins, is_apart, is_blank, is_bracket, is_control, is_document_mark, is_foreign, is_indicator, is_line_end, is_line_over, is_mark, is_mark_of_three, is_name_byte, is_odd};
 ghost use Rattle.subst_yaml_reader.specs.Search.{is_inner};
 
-/// Blanks, line ends, the colon and `,[]{}`, each at its own index, and a dot at every other index.
+/// A table from bytes to bytes. Blanks, line ends, the colon and `,[]{}` are mapped to themselves, and all
+/// other bytes to a dot.
 static OUTER_BYTES: [u8; 256] = *b"\
     .........\t\n..\r..................\
     \x20...........,.............:.....\

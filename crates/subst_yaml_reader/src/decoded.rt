@@ -117,7 +117,8 @@ fn plain_lines(alloc: Global, token: &[u8]) -> Result<Vec<u8>, AllocError>
     ended(alloc, read)
 }
 
-/// Decodes a token in quotes or of a block scalar, from its second byte on. Returns `None` for other tokens.
+/// Decodes a token in quotes or of a block scalar. `rest` is the token without its first byte. Returns `None`
+/// for other styles, or if the token can't be decoded in its style.
 fn value_after(
     alloc: Global,
     style: Style,
@@ -222,7 +223,8 @@ fn piece_after(held: Escape, byte: u8) -> Piece
     }
 }
 
-/// Returns the state of an escape after a byte between double quotes, or `None` if the byte can't be there.
+/// Returns the state of an escape after a byte between double quotes, or `None` if the byte isn't accepted.
+/// `held` is the state before the byte.
 fn double_step(held: Escape, byte: u8) -> Option<Escape>
     ensures { result ≡ double_step held byte }
 {
@@ -290,7 +292,8 @@ fn cut_end(lines: &mut Vec<u8>)
     }
 }
 
-/// Decodes a block scalar in the style `|` from its second byte on, or returns `None` if its header is wrong.
+/// Decodes a block scalar in the style `|`. `text` is the text after the `|`. Returns `None` if the header is
+/// wrong.
 #[tactic(auto, unfolding(crate::specs::Decoded::literal_value))]
 fn literal_value(alloc: Global, indent: usize, text: &[u8]) -> Result<Option<Vec<u8>>, AllocError>
     ensures { IfOk result (λ value. option_map (λ bytes. bytes.items) value
@@ -307,7 +310,8 @@ fn literal_value(alloc: Global, indent: usize, text: &[u8]) -> Result<Option<Vec
     Ok(Some(lines))
 }
 
-/// Decodes a block scalar in the style `>` from its second byte on, or returns `None` if its header is wrong.
+/// Decodes a block scalar in the style `>`. `text` is the text after the `>`. Returns `None` if the header is
+/// wrong.
 fn folded_value(alloc: Global, indent: usize, text: &[u8]) -> Result<Option<Vec<u8>>, AllocError>
     ensures { IfOk result (λ value. option_map (λ bytes. bytes.items) value
         ≡ option_map (folded_lines None (10 ∷ [])) (literal_value indent text.now)) }

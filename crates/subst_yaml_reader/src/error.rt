@@ -54,7 +54,7 @@ pub enum Reason {
     BlockSpaces,
     /// A value begins with a character that can't begin one.
     Indicator,
-    /// A character isn't accepted by every reader.
+    /// The text has a character that not every reader accepts.
     Character,
     /// A carriage return has no line feed after it.
     CarriageReturn,

@@ -26,8 +26,8 @@ fn is_same(one: Bracket, other: Bracket) -> bool
     }
 }
 
-/// Returns whether no node follows an anchor or a tag: the text after it is on another line, or begins with
-/// `,`, `]` or `}`.
+/// Returns whether no node follows an anchor or a tag on the same line. This is so if `text`, the text after
+/// the anchor or the tag, is on another line (`is_fresh`), or begins with `,`, `]` or `}`.
 fn is_node_over(is_fresh: bool, text: &[u8]) -> bool
     ensures { result ≡ is_node_over is_fresh text.now }
 {
@@ -180,7 +180,8 @@ impl Reader {
         Halt::at(reason, text)
     }
 
-    /// Reads the content of a node in brackets from `at` on. Its anchor and tag are from `text` to `at`.
+    /// Reads the content of a node in brackets. The content is from `at` on, and the node's anchor and tag
+    /// are from `text` to `at`.
     #[tactic(auto, unfolding(crate::specs::Flow::flow_content))]
     fn flow_content<'t>(
         &mut self,

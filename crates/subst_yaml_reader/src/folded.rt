@@ -40,7 +40,7 @@ fn append_others(value: &mut Vec<u8>, ends: &[u8]) -> Result<(), AllocError>
     }
 }
 
-/// Appends folded white space. `ends` are its line feeds. Without line feeds, `white` is appended; with one,
+/// Appends white space, folded. `ends` are its line feeds. Without line feeds, `white` is appended; with one,
 /// a space; with several, all of them but the first.
 fn append_joined(value: &mut Vec<u8>, white: &[u8], ends: &[u8]) -> Result<(), AllocError>
     ensures { IfOk result (λ _. value.new.items ≡ value.old.items ++ joined white.now ends.now) }
@@ -89,8 +89,9 @@ fn end_gap(alloc: Global, folded: &mut Folded) -> Result<(), AllocError>
     Ok(())
 }
 
-/// Appends the folded white space before a piece, and then the piece. A piece of white space is only kept,
-/// and folded later.
+/// Appends the folded white space before a piece, and then the piece. `Nothing` changes nothing. A `White`
+/// piece is only kept, and folded later. An `EscapedEnd` is kept too, but the white space before it is folded
+/// and appended at once.
 pub(crate) fn append(alloc: Global, folded: &mut Folded, piece: Piece) -> Result<(), AllocError>
     ensures value { IfOk result (λ _. folded.new.value.items
         ≡ folded.old.value.items ++ added folded.old.white.items piece) }

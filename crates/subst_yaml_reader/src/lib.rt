@@ -1,9 +1,9 @@
 //! Reads a text of YAML as a list of events, without a tree. [`read`] returns the spans and styles of keys
 //! and values. [`value_of`] decodes a scalar, and folds its lines.
 //!
-//! It accepts collections with and without brackets, scalars in all styles, aliases, anchors, tags, comments
-//! and several documents. The directive `%YAML 1.1` or `%YAML 1.2` may precede the first one. It refuses
-//! forms on which readers differ or that few people write, among them:
+//! [`read`] accepts collections with and without brackets, scalars in all styles, aliases, anchors, tags,
+//! comments and several documents. The directive `%YAML 1.1` or `%YAML 1.2` may precede the first document.
+//! [`read`] refuses forms on which readers differ or that few people write, among them:
 //!
 //! - keys after `?`, keys over several lines, and keys that are collections;
 //! - other directives;

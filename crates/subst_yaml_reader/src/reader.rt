@@ -116,7 +116,7 @@ impl Reader {
         }
     }
 
-    /// Clears `events`, and keeps the kind of the last event in `last`.
+    /// Sets `last` to the kind of the last event so far, and clears `events`.
     pub(crate) fn forget_events(&mut self)
         ensures { state_of self.new ≡ without_events (state_of self.old) }
     {
@@ -149,7 +149,8 @@ impl Reader {
         self.line = spot.1;
     }
 
-    /// Moves to the next token in `rest`, after white space and comments. Returns the text from it on.
+    /// Moves to the next token in `rest`, after white space and comments. Returns the text from that token
+    /// on.
     #[inline(always)]
     pub(crate) fn go_on<'t>(&mut self, rest: &'t [u8]) -> &'t [u8]
         ensures { after_token rest.now (state_of self.old) ≡ Some (state_of self.new, result.now) }

@@ -24,7 +24,7 @@ pub(crate) enum Escape {
     Digits(u8, u32),
 }
 
-/// Returns whether every reader accepts all characters of the text.
+/// Returns whether every YAML reader accepts all characters of the text.
 #[tactic(auto, unfolding(crate::specs::Runs::is_text))]
 pub(crate) fn is_text(text: &[u8]) -> bool
     ensures { result ≡ is_text text.now }
@@ -171,7 +171,8 @@ fn ends_plain(byte: u8, rest: &[u8], in_flow: bool) -> bool
         || in_flow && is_bracket(byte)
 }
 
-/// Returns the text after one line of unquoted text, from the blanks at the end of that line on.
+/// Skips the first line of the unquoted text at the start of `text`, but not blanks at that line's end.
+/// Returns the rest of `text`.
 #[tactic(auto, unfolding(crate::specs::Runs::after_plain))]
 pub(crate) fn after_plain(text: &[u8], in_flow: bool) -> &[u8]
     ensures { result.now ≡ after_plain in_flow text.now text.now }
@@ -270,7 +271,7 @@ fn is_escape(byte: u8) -> bool
         || is_line_end(byte)
 }
 
-/// Returns the number of digits in an escape with this letter, or 0 for another byte.
+/// Returns the number of digits in an escape with the letter `x`, `u` or `U`, or 0 for another byte.
 pub(crate) fn digits_after(byte: u8) -> u8
     ensures { result ≡ digits_after byte }
 {
@@ -304,8 +305,9 @@ fn is_surrogate(number: u32) -> bool
     number >= 0xD800 && number < 0xE000
 }
 
-/// Returns the state of an escape after `digit`, the next of `left` missing digits. The digits before have
-/// the value `value`. Returns `None` if `digit` is over 15, or if the number can't be a character.
+/// Returns the state of an escape after `digit`, the next of `left` missing digits. `value` is the value of
+/// the digits before it. Returns `None` if `digit` is over 15, if the number so far is over 0x10FFFF, or if
+/// the complete number is a surrogate.
 fn with_digit(left: u8, value: u32, digit: u32) -> Option<Escape>
     ensures { result ≡ with_digit left value digit }
 {
@@ -383,7 +385,8 @@ pub(crate) fn is_past(outer: Option<usize>, column: usize) -> bool
     }
 }
 
-/// Returns whether a line at this column continues unquoted text in a collection at the column `outer`.
+/// Returns whether a line that is indented to `column` continues unquoted text in a collection at the column
+/// `outer`.
 fn goes_on(outer: Option<usize>, column: usize, line: &[u8]) -> bool
     ensures { result ≡ goes_on outer column line.now }
 {
@@ -399,7 +402,8 @@ fn goes_on(outer: Option<usize>, column: usize, line: &[u8]) -> bool
     }
 }
 
-/// Returns the text from the next line of unquoted text on, or `None` if no line continues it.
+/// Finds the line that continues the unquoted text before `text`. Returns the rest of `text` after that
+/// line's indentation, or `None` if no line continues the unquoted text.
 fn next_line(outer: Option<usize>, text: &[u8]) -> Option<&[u8]>
     ensures some { IfSome result (λ line. next_line outer text.now ≡ Some line.now) }
     ensures none { IfNone result (next_line outer text.now ≡ None) }

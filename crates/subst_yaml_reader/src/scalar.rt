@@ -16,9 +16,9 @@ pub(crate) const LONGEST_KEY: usize = 1024;
 /// The properties of a node: whether it has an anchor, and whether a tag.
 #[derive(Clone, Copy)]
 pub(crate) struct Properties {
-    /// Whether it has an anchor.
+    /// Whether the node has an anchor.
     pub(crate) anchor: bool,
-    /// Whether it has a tag.
+    /// Whether the node has a tag.
     pub(crate) tag: bool,
 }
 
@@ -43,8 +43,8 @@ pub(crate) fn after_byte(text: &[u8], byte: u8) -> &[u8]
     }
 }
 
-/// Returns the position of the next token, after blanks, comments and line ends. `line` is the number of
-/// bytes from the start of the line in which `text` begins to the end of the source.
+/// Returns the position of the next token, after blanks, comments and line ends. `line` is the length of what
+/// remains of the source, from the start of the line in which `text` begins.
 #[tactic(auto, unfolding(crate::specs::Scalar::after_gap))]
 pub(crate) fn after_gap(text: &[u8], line: usize) -> Spot<'_>
     ensures { after_gap line text.now ≡ (result.0, result.1, result.2.now) }
@@ -66,7 +66,8 @@ fn is_name_over(text: &[u8], in_flow: bool, in_tag: bool) -> bool
         || in_flow && !in_tag && (begins(text, b',') || begins(text, b']') || begins(text, b'}'))
 }
 
-/// Returns the text after the name at its start, or refuses the byte at which no name can begin or end.
+/// Returns the text after the name at its start. Refuses the byte after the name if the name is empty or
+/// can't end before that byte.
 #[tactic(auto, unfolding(crate::specs::Scalar::name_end))]
 fn name_end(text: &[u8], in_flow: bool, in_tag: bool) -> Result<&[u8], Halt>
     ensures ok { IfOk result (λ rest. name_end in_flow in_tag text.now ≡ Some rest.now) }

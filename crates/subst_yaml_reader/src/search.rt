@@ -43,7 +43,7 @@ fn after_clear_bytewise(text: &[u8]) -> &[u8]
     rest
 }
 
-/// Returns whether a byte may begin a character that not every reader accepts.
+/// Returns whether a byte may begin a character that not every YAML reader accepts.
 fn may_be_foreign(byte: u8) -> bool
     ensures { result ≡ may_be_foreign byte }
 {
@@ -66,7 +66,7 @@ pub(crate) fn to_line_feed(text: &[u8]) -> &[u8]
     to_line_feed_bytewise(rest)
 }
 
-/// Searches a byte at a time for a line feed, and returns the text from the line feed on.
+/// Searches, one byte at a time, for a line feed. Returns the text from the line feed on.
 #[tactic(auto, unfolding(crate::specs::Search::to_line_feed))]
 fn to_line_feed_bytewise(text: &[u8]) -> &[u8]
     ensures value { result.now ≡ to_line_feed text.now }

@@ -42,16 +42,16 @@ fn after_version(text: &[u8]) -> Option<&[u8]>
     }
 }
 
-/// Returns the text from the end of its first line on. Returns `None` if that line isn't `%YAML 1.1` or
-/// `%YAML 1.2`, optionally with a comment.
+/// Returns the text from the end of its first line on. This line has to be `%YAML 1.1` or `%YAML 1.2`,
+/// optionally with a comment. Returns `None` if it isn't.
 fn directive_end(text: &[u8]) -> Option<&[u8]>
     ensures { option_map (λ rest. rest.now) result ≡ directive_end text.now }
 {
     line_end_of(after_version(text)?)
 }
 
-/// Returns whether `text` begins at the start of a line. `line` is the number of bytes from the start of the
-/// line in which `text` begins to the end of the source.
+/// Returns whether `text` begins at the start of a line. `line` is the length of what remains of the source,
+/// from the start of the line in which `text` begins.
 fn is_at_line(line: usize, text: &[u8]) -> bool
     ensures { result ≡ is_at_line (line, text.now) }
 {
@@ -76,7 +76,8 @@ pub(crate) fn after_directive(line: usize, text: &[u8]) -> (usize, &[u8])
     }
 }
 
-/// Returns the refusal of the first character that not every reader accepts, in a text that has one.
+/// Returns the refusal of the first character that not every YAML reader accepts. The text has to contain
+/// such a character.
 pub(crate) fn foreign(text: &[u8]) -> Halt {
     let mut rest = text;
     while let [first, tail @ ..] = rest {
@@ -93,7 +94,7 @@ pub(crate) fn foreign(text: &[u8]) -> Halt {
     Halt::at(Reason::Character, rest)
 }
 
-/// Converts a halt into an error. A refusal has the span of the refused character in `source`, and its line.
+/// Converts a halt into an error. A refusal has the span and the line of the refused character in `source`.
 pub(crate) fn error_of(source: &[u8], halt: Halt) -> Error
     ensures out_of_memory { result ≡ MemoryError ↔ halt ≡ OutOfMemory }
     ensures span { IsInside result source.now }
@@ -115,7 +116,7 @@ pub(crate) fn error_of(source: &[u8], halt: Halt) -> Error
     }
 }
 
-/// Returns the length of the first character of a text in bytes, or 0 if the text is empty.
+/// Returns the length in bytes of a text's first character, or 0 if the text is empty.
 fn character_len(text: &[u8]) -> usize
     ensures { result ≤ length text.now }
 {

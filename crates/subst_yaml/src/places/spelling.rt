@@ -110,8 +110,9 @@ impl<'t> Cursor<'t> {
         }
     }
 
-    /// Advances to an offset of the string, or only to the line break that contains it. Returns the offset
-    /// reached, or `None` if `offset` is past the string's end or within an escape.
+    /// Advances to an offset of the string, or only to the start of a line break that contains the offset or
+    /// ends there. Returns the offset reached, or `None` if `offset` is past the string's end or within an
+    /// escape.
     fn pass_until(&mut self, offset: usize) -> Option<usize> {
         for _ in 0..self.rest.len() {
             if self.offset >= offset {
@@ -231,7 +232,7 @@ fn white_space(text: &[u8]) -> Piece {
     }
 }
 
-/// Returns the piece of an escape whose backslash is before this text.
+/// Returns the piece for an escape whose backslash is right before `text`.
 fn escape(text: &[u8]) -> Piece {
     match text {
         [b'\n' | b'\r', ..] => {
@@ -251,7 +252,7 @@ fn escape(text: &[u8]) -> Piece {
     }
 }
 
-/// Returns the piece of an escape with this many digits.
+/// Returns the piece for a hexadecimal escape. Its digits are the first `count` bytes of `digits`.
 fn hex_escape(digits: &[u8], count: usize) -> Piece {
     let mut value = 0u32;
     for digit in digits.iter().take(count) {
@@ -265,7 +266,7 @@ fn hex_escape(digits: &[u8], count: usize) -> Piece {
     Piece::of(count.saturating_add(2), spelled)
 }
 
-/// Returns one piece for the line ends at the start of a text, with the indentation of the lines after them.
+/// Returns one piece for the line ends at the start of a text, including the indentation after each of them.
 fn lines(scalar: Scalar, text: &[u8], is_indented: Option<bool>) -> Piece {
     let mut rest = text;
     let mut feeds = 0usize;
