@@ -5,8 +5,7 @@ use Rattle.subst_yaml_reader.specs.declared.error.Error.{Error}
 use Rattle.subst_yaml_reader.specs.declared.error.Error.TheVariants.{Refused, OutOfMemory}
 use Rattle.subst_yaml_reader.specs.declared.event.Event.{Event}
 
--- the span of a refusal is in the text, and the refusal's `line` is the number, from 1, of the line on which
--- the span begins
+-- the span of a refusal is in the text, and the refusal's `line` is that of the span's start, counted from 1
 abbrev pub IsInside : Error → List ℕ → Type 0
 IsInside (Refused fault) text = (fault.span.start ≤ fault.span.«end») × (fault.span.«end» ≤ length text)
     × (fault.line ≡ count_by (λ b. b == line_feed) (take fault.span.start text) + 1)

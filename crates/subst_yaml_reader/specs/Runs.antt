@@ -148,9 +148,9 @@ abbrev pub closes : Escape → ℕ → Bool
 closes Nothing b = b == double_quote
 closes _ b = false
 
--- the text after the closing double quote. The argument begins inside the quotes, in the state `held` of an
--- escape. The result is `None` if the quotes aren't closed, if an escape in them is wrong, or if a line in
--- them begins with a document mark
+-- The text after the closing double quote. The argument begins inside the quotes, in the state `held` of an
+-- escape. The result is `None` if no quote closes them, an escape in them is wrong, or a line in them begins
+-- with a document mark.
 unfoldable pub after_double : Escape → List ℕ → Option (List ℕ)
 after_double held [] = None
 after_double held (b ∷ rest) =
