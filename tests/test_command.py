@@ -285,7 +285,7 @@ def default_of_a_shell(place, sign):
 
 
 def left_as_text(place):
-    return f'{place}: hint: this variable is left as text; use --shell for shell-style defaults\n'.encode()
+    return f'{place}: hint: this variable is left as text; to expand it, use --shell\n'.encode()
 
 
 class Hints(Subst):
@@ -298,7 +298,7 @@ class Hints(Subst):
             self.assert_ends(hinted(['-sA=1'], source), 0, f'1 1\n{sign}x-y'.encode(), hint)
             self.assert_ends(hinted(['-sA=1', '--check'], source), 0, errors=hint)
             self.assert_ends(hinted(['-sA=1', '--envsubst'], source), 0, source.replace(b'$A ', b'1 '),
-                             b'<stdin>:1:8: hint: this default is left as text; use --only or --known\n')
+                             b'<stdin>:1:8: hint: this default is left as text; to expand it, use --only or --known\n')
             after = source.split(b'\n')[1]
             self.assert_ends(hinted(['-sA=1', '--envsubst'], after), 0, after,
                              left_as_text('<stdin>:1:7'))
@@ -320,8 +320,8 @@ class Hints(Subst):
 
     def test_default_that_is_an_error(self):
         shell = "this default begins with '-'; use --shell for shell-style defaults"
-        kept = 'this variable is left as text; use --shell for shell-style defaults'
-        text = 'this default is left as text; use --only or --known'
+        kept = 'this variable is left as text; to expand it, use --shell'
+        text = 'this default is left as text; to expand it, use --only or --known'
         words = ['-sA=1', '--check', '--strict']
         for more, source, place, what in (([], '$A ${A:-x}', '1:8', shell),
                                           (['--only=A'], '${A:-x}', '1:5', kept),
@@ -367,7 +367,7 @@ class Hints(Subst):
         end = hinted(['-e', '--envsubst'], b'listen ${PORT:8080}; $host', env={})
         self.assertEqual((end.status, end.output), (1, b''))
         self.assertIn(missing('host', '<stdin>:1:23', 'listen ${PORT:8080}; $host', ' ' * 22 + '^' * 4), end.errors)
-        self.assertIn(b'<stdin>:1:15: hint: this default is left as text; use --only or --known\n', end.errors)
+        self.assertIn(b'<stdin>:1:15: hint: this default is left as text; to expand it, use --only or --known\n', end.errors)
 
     def test_hint_of_a_file_that_is_no_file(self):
         hint = b'subst: hint: use --set A=VALUE to set a variable\n'

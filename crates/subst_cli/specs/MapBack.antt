@@ -46,8 +46,8 @@ abbrev pub IsMappedAt : Forms → Option VariableAt → Fault → Fault → Type
 IsMappedAt forms (Some v) x it = (it.range.start ≡ v.position) × IsMappedCause forms x.cause it.cause
 IsMappedAt forms None x it = (it.range.start ≡ x.range.start) × IsMappedCause forms x.cause it.cause
 
--- `it` is the fault `x` of `template`, mapped back to the text `s`: to the counterpart of the template's
--- variable at the position of `x`, if there is one
+-- `it` is the fault `x` of `template`, mapped back to the text `s`. If the template has a variable at the
+-- position of `x`, `it` is at that variable's counterpart in `s`.
 abbrev pub IsMappedIn : Grammar → (s template : List ℕ) → Fault → Fault → Type 0
 IsMappedIn g s template x it = (t : Tree) → Spells t template → (variables : List VariableAt)
     × Listing g 0 0 s variables × IsMappedAt g.forms (counterpart (positions_of t) variables x.range.start) x it

@@ -117,12 +117,15 @@ fn text_of_default(
     placeholders: &Placeholders<'_>,
 ) -> Result<String, AllocError> {
     if !is_of_a_shell(found.first) {
-        return String::from_str(alloc, "this default is left as text; use --only or --known");
+        return String::from_str(
+            alloc,
+            "this default is left as text; to expand it, use --only or --known",
+        );
     }
     if let Placeholders::Chosen(_) = placeholders {
         return String::from_str(
             alloc,
-            "this variable is left as text; use --shell for shell-style defaults",
+            "this variable is left as text; to expand it, use --shell",
         );
     }
     let sign = char::from(found.first);

@@ -1,4 +1,4 @@
--- The output of an expansion with a map whose values no contract knows. Contracts start from the output with
+-- The output of an expansion with a map whose values no contract states. Contracts start from the output with
 -- a single byte, the mark, as each value. In it, some marks are replaced by bytes of which the reader's
 -- `is_read` holds.
 use Rattle.std.specs.Prelude.{◌≡◌, ℕ, List, [], ◌∷◌, ◌++◌, Option}
@@ -6,7 +6,7 @@ use Rattle.subst_language.specs.Calls.VariableMap.{look_up_of}
 use Rattle.subst_language.specs.Language.LookUp.{LookUp}
 use Rattle.subst_language.specs.Language.Value.{Value, Bytes}
 
--- the byte that is used as each value if no contract knows the values; any ASCII byte would do
+-- the byte that stands for every value if no contract states the values; any ASCII byte would do
 abbrev pub mark : ℕ
 mark = 0
 

@@ -1,6 +1,6 @@
 //! The loop that expands a list of parts over its source, compiled for each width of parts and each kind of
 //! output. It appends the value of the parts under the map's look-up, or stops at a missing variable or a
-//! full output. Each part that it visits adds a turn. Even for a map whose values no contract knows,
+//! full output. Each part that it visits adds a turn. Even for a map whose values no contract states,
 //! contracts state the missing variable, and the bytes of the output around the values.
 
 ghost use Rattle.std.specs.Prelude.{◌≡◌, ◌≤◌, ◌<◌, ◌+◌, ◌^◌, ◌++◌, length, Err, IfErr, IfOk, IfSome, OnOk};
@@ -76,12 +76,12 @@ where
         (λ look. turns.new ≤ turns.old + length (visited_parts parts.now 0 0 source.now look)) }
     ensures grown { turns.old ≤ turns.new }
 
-    // The output, even if no contract knows the values: bytes from the source and, as the values, bytes of
+    // The output, even if no contract states the values: bytes from the source and, as the values, bytes of
     // which `R.is_read` holds.
     ensures filled { IfOk result (λ output. FillsMarks R.is_read
         (parts_value parts.now source.now (marks_of (M.look_up variables.now))) output.items) }
 
-    // The missing variable, even if no contract knows the values.
+    // The missing variable, even if no contract states the values.
     ensures missing { IfErr result (λ e. IfSome (expand_fault e)
         (IsMissing (parts_value parts.now source.now (marks_of (M.look_up variables.now))))) }
 {

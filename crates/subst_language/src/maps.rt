@@ -22,7 +22,7 @@ mod no_empty;
 /// A map from variable names to values.
 ///
 /// In contracts, each value is identified with something of the type `Seen`. A reference is identified with
-/// the value that it points to, as no contract knows the reference's address. The map is a look-up: a
+/// the value that it points to, as no contract states the reference's address. The map is a look-up: a
 /// function from the bytes of a name to what the name's value is identified with, or to `None`. Infinitely
 /// many names may have values. An implementation has three ghost members:
 ///

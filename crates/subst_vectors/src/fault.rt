@@ -98,8 +98,8 @@ fn ends(fault: &Error) -> bool
     }
 }
 
-/// Returns the column of a source line or an underline. A lone dot is escaped, since an unescaped dot means
-/// that there is no line.
+/// Returns a source line or an underline as a column of a row. A lone dot is escaped, since an unescaped dot
+/// means that there is no line.
 fn line_column(alloc: Global, line: &str) -> Result<String, AllocError> {
     match line {
         "." => String::from_str(alloc, "%2E"),

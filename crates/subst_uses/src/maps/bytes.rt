@@ -18,7 +18,7 @@ use std::convert::AsSlice;
 use std::hash::BuildHasher;
 use subst::{Env, Error, Layered, NoEmpty, NoSubstitution, ShellMap, substitute_bytes};
 
-/// Expands bytes from a `BTreeMap` with borrowed keys.
+/// Expands bytes with the values of a `BTreeMap` with borrowed keys.
 pub fn btree_map_of_borrowed<V: AsSlice<u8>>(
     alloc: Global,
     source: &[u8],
@@ -31,7 +31,7 @@ pub fn btree_map_of_borrowed<V: AsSlice<u8>>(
     substitute_bytes(alloc, source, variables)
 }
 
-/// Expands bytes from a `HashMap`.
+/// Expands bytes with the values of a `HashMap`.
 pub fn hash_map<V: AsSlice<u8>, S: BuildHasher>(
     alloc: Global,
     source: &[u8],
@@ -43,7 +43,7 @@ pub fn hash_map<V: AsSlice<u8>, S: BuildHasher>(
     substitute_bytes(alloc, source, variables)
 }
 
-/// Expands bytes from a `HashMap` with borrowed keys.
+/// Expands bytes with the values of a `HashMap` with borrowed keys.
 pub fn hash_map_of_borrowed<V: AsSlice<u8>, S: BuildHasher>(
     alloc: Global,
     source: &[u8],
@@ -56,7 +56,7 @@ pub fn hash_map_of_borrowed<V: AsSlice<u8>, S: BuildHasher>(
     substitute_bytes(alloc, source, variables)
 }
 
-/// Expands bytes from an `IndexMap`.
+/// Expands bytes with the values of an `IndexMap`.
 pub fn index_map<V: AsSlice<u8>, S: BuildHasher>(
     alloc: Global,
     source: &[u8],
@@ -68,7 +68,7 @@ pub fn index_map<V: AsSlice<u8>, S: BuildHasher>(
     substitute_bytes(alloc, source, variables)
 }
 
-/// Expands bytes from an `IndexMap` with borrowed keys.
+/// Expands bytes with the values of an `IndexMap` with borrowed keys.
 pub fn index_map_of_borrowed<V: AsSlice<u8>, S: BuildHasher>(
     alloc: Global,
     source: &[u8],
@@ -89,7 +89,7 @@ pub fn no_substitution(alloc: Global, source: &[u8]) -> Result<Vec<u8>, Error>
     substitute_bytes(alloc, source, &NoSubstitution)
 }
 
-/// Expands bytes from the pairs of an `Env`.
+/// Expands bytes with the pairs of an `Env`.
 pub fn env(alloc: Global, source: &[u8], variables: &Env) -> Result<Vec<u8>, Error>
     ensures { IfSome (answer_of (λ output. output.items) result)
         (Answers source.now (first_value variables.now)) }
@@ -97,7 +97,7 @@ pub fn env(alloc: Global, source: &[u8], variables: &Env) -> Result<Vec<u8>, Err
     substitute_bytes(alloc, source, variables)
 }
 
-/// Expands bytes from the pairs of an `Env`. A name that no pair sets is looked up in `defaults`.
+/// Expands bytes with the pairs of an `Env`. A name that no pair sets is looked up in `defaults`.
 pub fn layered<V: AsSlice<u8>>(
     alloc: Global,
     source: &[u8],
@@ -115,7 +115,7 @@ pub fn layered<V: AsSlice<u8>>(
     any_map::filled_in(alloc, source, &layers)
 }
 
-/// Expands bytes from the pairs of an `Env`, with empty values as unset.
+/// Expands bytes with the pairs of an `Env`, with empty values as unset.
 pub fn no_empty(alloc: Global, source: &[u8], variables: &Env) -> Result<Vec<u8>, Error>
     ensures { IfSome (answer_of (λ output. output.items) result)
         (Answers source.now (without_empty (first_value variables.now))) }
@@ -123,7 +123,7 @@ pub fn no_empty(alloc: Global, source: &[u8], variables: &Env) -> Result<Vec<u8>
     any_map::filled_in(alloc, source, &NoEmpty { map: variables })
 }
 
-/// Expands bytes from a `ShellMap` over the pairs of an `Env`.
+/// Expands bytes with the values of a `ShellMap` over the pairs of an `Env`.
 pub fn shell_map(alloc: Global, source: &[u8], variables: &Env) -> Result<Vec<u8>, Error>
     ensures { IfSome (answer_of (λ output. output.items) result)
         (Answers source.now (by_question (first_value variables.now))) }

@@ -16,7 +16,7 @@ use std::convert::AsStr;
 use std::hash::BuildHasher;
 use subst::{Env, Error, Layered, NoEmpty, NoSubstitution, ShellMap, laws, substitute};
 
-/// Expands a text from a `BTreeMap`.
+/// Expands a text with the values of a `BTreeMap`.
 pub fn btree_map<V: AsStr>(
     alloc: Global,
     source: &str,
@@ -28,7 +28,7 @@ pub fn btree_map<V: AsStr>(
     substitute(alloc, source, variables)
 }
 
-/// Expands a text from a `BTreeMap` with borrowed keys.
+/// Expands a text with the values of a `BTreeMap` with borrowed keys.
 pub fn btree_map_of_borrowed<V: AsStr>(
     alloc: Global,
     source: &str,
@@ -41,7 +41,7 @@ pub fn btree_map_of_borrowed<V: AsStr>(
     substitute(alloc, source, variables)
 }
 
-/// Expands a text from a `HashMap`.
+/// Expands a text with the values of a `HashMap`.
 pub fn hash_map<V: AsStr, S: BuildHasher>(
     alloc: Global,
     source: &str,
@@ -53,7 +53,7 @@ pub fn hash_map<V: AsStr, S: BuildHasher>(
     substitute(alloc, source, variables)
 }
 
-/// Expands a text from a `HashMap` with borrowed keys.
+/// Expands a text with the values of a `HashMap` with borrowed keys.
 pub fn hash_map_of_borrowed<V: AsStr, S: BuildHasher>(
     alloc: Global,
     source: &str,
@@ -66,7 +66,7 @@ pub fn hash_map_of_borrowed<V: AsStr, S: BuildHasher>(
     substitute(alloc, source, variables)
 }
 
-/// Expands a text from an `IndexMap`.
+/// Expands a text with the values of an `IndexMap`.
 pub fn index_map<V: AsStr, S: BuildHasher>(
     alloc: Global,
     source: &str,
@@ -78,7 +78,7 @@ pub fn index_map<V: AsStr, S: BuildHasher>(
     substitute(alloc, source, variables)
 }
 
-/// Expands a text from an `IndexMap` with borrowed keys.
+/// Expands a text with the values of an `IndexMap` with borrowed keys.
 pub fn index_map_of_borrowed<V: AsStr, S: BuildHasher>(
     alloc: Global,
     source: &str,
@@ -99,7 +99,7 @@ pub fn no_substitution(alloc: Global, source: &str) -> Result<String, Error>
     substitute(alloc, source, &NoSubstitution)
 }
 
-/// Expands a text from the pairs of an `Env`.
+/// Expands a text with the pairs of an `Env`.
 pub fn env(alloc: Global, source: &str, variables: &Env) -> Result<String, Error>
     ensures { IfSome (answer_of (λ output. string_bytes output) result)
         (Answers source.now (first_value variables.now)) }
@@ -107,7 +107,7 @@ pub fn env(alloc: Global, source: &str, variables: &Env) -> Result<String, Error
     substitute(alloc, source, variables)
 }
 
-/// Expands a text from the pairs of an `Env`. A name that no pair sets is looked up in `defaults`.
+/// Expands a text with the pairs of an `Env`. A name that no pair sets is looked up in `defaults`.
 pub fn layered<V: AsStr>(
     alloc: Global,
     source: &str,
@@ -126,7 +126,7 @@ pub fn layered<V: AsStr>(
     substitute(alloc, source, &layers)
 }
 
-/// Expands a text from the pairs of an `Env`, with empty values as unset.
+/// Expands a text with the pairs of an `Env`, with empty values as unset.
 pub fn no_empty(alloc: Global, source: &str, variables: &Env) -> Result<String, Error>
     ensures { IfSome (answer_of (λ output. string_bytes output) result)
         (Answers source.now (without_empty (first_value variables.now))) }
@@ -134,7 +134,7 @@ pub fn no_empty(alloc: Global, source: &str, variables: &Env) -> Result<String, 
     substitute(alloc, source, &NoEmpty { map: variables })
 }
 
-/// Expands a text from a `ShellMap` over the pairs of an `Env`.
+/// Expands a text with the values of a `ShellMap` over the pairs of an `Env`.
 pub fn shell_map(alloc: Global, source: &str, variables: &Env) -> Result<String, Error>
     ensures { IfSome (answer_of (λ output. string_bytes output) result)
         (Answers source.now (by_question (first_value variables.now))) }
