@@ -281,8 +281,9 @@ def from_shell(text: _BytesLike) -> bytes: ...
 
 
 def from_shell(text: Any) -> Any:
-    """Returns a template for a text of a shell, as far as Docker Compose reads it in the same way: $name, ${name},
-    ${name:-default}, ${name:?message}, and $$ for a dollar. Expand it with a mapping without empty values.
+    """Returns a template for a text with a shell's variables, as far as Docker Compose reads them in the same way:
+    $name, ${name}, ${name:-default}, ${name:?message}, and $$ for a dollar. Expand it with a mapping without empty
+    values.
 
         >>> from_shell('$host:${port:-80}')
         '${host?}:${port:80}'

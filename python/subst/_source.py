@@ -285,7 +285,7 @@ def check(encoding: Encoding[Any], source: bytes) -> None:
 
 
 def from_shell(encoding: Encoding[AnyStr], text: bytes) -> AnyStr:
-    """Returns the template for a text of a shell. Raises ShellError for the first form that has none."""
+    """Returns the template for a text with a shell's variables. Raises ShellError for the first form that has none."""
     result, memory = _put(
         lambda memory: _library.subst_from_shell(text, len(text), memory.bytes_at, memory.size, memory.head_at,
                                                  memory.fault_at, memory.fault_at + 8), 2 * len(text))

@@ -687,9 +687,9 @@ pub extern "C" fn subst_with_only(
     )
 }
 
-/// Writes a template for `source`, a text of a shell, to the front of the buffer. Variables have the forms
-/// that shells and Docker Compose read alike. Expand the template only with pairs whose values aren't empty.
-/// If a form is refused, `form` is its number, and `position` the byte offset where it begins.
+/// Writes a template for `source`, a text with a shell's variables, to the front of the buffer. The variables
+/// have the forms that shells and Docker Compose read alike. Expand the template only with pairs whose values
+/// aren't empty. If a form is refused, `form` is its number, and `position` the byte offset where it begins.
 #[unsafe(no_mangle)]
 pub extern "C" fn subst_from_shell(
     alloc: Global,

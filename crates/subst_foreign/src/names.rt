@@ -9,8 +9,8 @@ use std::collections::BTreeSet;
 use subst_language::VariableMap;
 
 /// A choice of the names that are variables. Implementations define two ghost members. `all` states whether
-/// every name is chosen. `counts` states which names are chosen before an operator, and which are chosen if
-/// no operator follows.
+/// every name is chosen. `counts` states which names are chosen if an operator follows them, and which are
+/// chosen if none does.
 pub trait Names {
     ghost all: { Self → Bool };
 

@@ -13,8 +13,8 @@ use std::test::Fail;
 use subst::error::{MissingClosingBrace, MissingVariableName};
 use subst::{Error, NoSubstitution, substitute};
 
-/// Expects that a fault's line and column are `want`, such as `1:7`. Its highlighting must be the same
-/// whether it is written or returned.
+/// Expects that a fault's line and column are `want`, such as `1:7`. The highlighting that the
+/// library writes has to equal the one that it returns.
 fn expect_position(
     rt: &impl Testing,
     fault: &Error,

@@ -85,10 +85,11 @@ end_of i (Value style span in_flow indent) = span.«end»
 end_of i (FlowKey style span) = span.«end»
 end_of i _ = i
 
+-- the byte is a digit or a sign
 abbrev pub is_sign : ℕ → Bool
 is_sign b = b == 43 || b == 45 || (nat_lt 47 b && nat_lt b 58)
 
--- the text without the digits and signs at its start
+-- the text from its first byte on that is neither a digit nor a sign
 unfoldable pub after_signs : List ℕ → List ℕ
 after_signs [] = []
 after_signs (b ∷ rest) = elim (is_sign b) [ true ↦ after_signs rest | false ↦ b ∷ rest ]

@@ -25,7 +25,7 @@ use subst_yaml_reader::Span;
 /// If a string is refused, every refused string is reported, in the order of the strings in `source`. The
 /// report of each is a line `FILE:LINE:COLUMN: PATH: fault`, and the underlined line of the text if
 /// `error::underline` of `subst` returns one. If the reader refuses the text, its message is reported in the
-/// same form, without a path. If the place of a fault isn't confirmed, the fault is reported as `FILE: PATH:
+/// same form, without a path. If the check of a fault's place fails, the fault is reported as `FILE: PATH:
 /// fault`; no text is known for which that happens.
 ///
 /// ```text
