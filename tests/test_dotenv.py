@@ -39,7 +39,7 @@ REFUSED = (
     ('A="1', '1:1', QUOTE), ('A=\'1\n\\', '1:1', QUOTE), ('A="1\\"', '1:1', QUOTE), ('A=1\nB="\n\n\nC=1', '2:1', QUOTE),
     ('A=1\n\tA=${', '2:2', '`${` without a name; write `$$` for a dollar'),
     ('A=${B:=c}', '1:1', '`=` assigns, which isn\'t supported; write `${NAME:-default}` for a default'),
-    ('A=${B#c}', '1:1', "patterns aren't supported; set a variable to the result"),
+    ('A=${B#c}', '1:1', "patterns aren't supported; apply the pattern before, and set a variable to the result"),
     ('A="${B"', '1:1', 'a variable without a closing brace; write `}` after it'),
     ('A=${NONE:?hunter $HOME}', '1:1', no_such_variable('NONE') + ': hunter $HOME'),
     ('A=${EMPTY:?set it}', '1:1', '$EMPTY is empty: set it'), ('A=${NONE?}', '1:1', no_such_variable('NONE')),

@@ -71,7 +71,7 @@ class Templates(Subst):
 # The messages of refused forms, and texts with each.
 NO_SHELL = (
     ("`=` assigns, which isn't supported; write `${NAME:-default}` for a default", ('${B=x}', 'a ${B:=x}')),
-    ("patterns aren't supported; set a variable to the result", ('${A#x}', '${A%x}', '$A ${A/x/y}')),
+    ("patterns aren't supported; apply the pattern before, and set a variable to the result", ('${A#x}', '${A%x}', '$A ${A/x/y}')),
     ("`:` takes a substring, which isn't supported; write `${NAME:-default}` for a default", ('${A:1:2}', '${A:x}')),
     ("`${` without a name; write `$$` for a dollar", ('${}', '$A ${#A}', '$$${1}', '${!A}')),
     ("an unknown operator; write `$$` for a dollar", ('${A!}', '${A^}', '${A,,}', '${A@Q}', '${A }')),

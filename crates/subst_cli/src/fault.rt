@@ -136,7 +136,7 @@ fn instead_of(form: ShellForm) -> &'static str {
             "`=` assigns, which isn't supported; write `${NAME:-default}` for a default"
         }
         ShellForm::Hash | ShellForm::Percent | ShellForm::Slash => {
-            "patterns aren't supported; set a variable to the result"
+            "patterns aren't supported; apply the pattern before, and set a variable to the result"
         }
         ShellForm::Colon => {
             "`:` takes a substring, which isn't supported; write `${NAME:-default}` for a default"

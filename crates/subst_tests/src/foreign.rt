@@ -28,7 +28,7 @@ const OF_ENVSUBST: [Row<'static>; 9] = [
     ("${a}}$a}${${a}}", "${a}}$a}\\${${a}}", "1}1}${1}"),
 ];
 
-/// Chosen names, and the row of a text in which no other name is a variable.
+/// Chosen names, and a text's row if only these names are variables.
 const WITH_ONLY: [(&[&str], Row<'static>); 5] = [
     (&[], ("$a \\", "\\$a \\\\", "$a \\")),
     (

@@ -1,4 +1,4 @@
--- The value of a text of Docker Compose.
+-- The output of a text in the syntax of Docker Compose.
 use Rattle.std.specs.Prelude.{◌≡◌, ℕ, true, false, List, [], Err, IfSome}
 use Rattle.subst.specs.ErrorFault.{error_fault}
 use Rattle.subst.specs.Fault.{Fault, NoSuchVariable}

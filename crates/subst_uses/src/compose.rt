@@ -1,4 +1,4 @@
-//! A text of Docker Compose, expanded from the environment.
+//! A text in the syntax of Docker Compose, expanded from the environment.
 
 ghost use Rattle.std.specs.Prelude.{◌≡◌, Ok, IfErr, IfOk, string_bytes};
 ghost use Rattle.subst.specs.Calls.Maps.{first_value};
@@ -9,7 +9,7 @@ use std::alloc::Global;
 use subst::foreign::{AllNames, Forms, Missing, Style, TextError};
 use subst::{Env, Error, ShellMap, substitute};
 
-/// The error of a text of Docker Compose. Either case may also wrap an allocation failure.
+/// The error of a text in the syntax of Docker Compose. Either case may also wrap an allocation failure.
 #[derive(Debug, Drop)]
 pub enum ComposeError {
     /// A form of the text is refused.
@@ -34,7 +34,7 @@ impl From<Error> for ComposeError {
     }
 }
 
-/// Expands a text of Docker Compose from the environment. An unset variable expands to nothing.
+/// Expands a text in the syntax of Docker Compose from the environment. An unset variable expands to nothing.
 ///
 /// # Errors
 ///

@@ -238,7 +238,7 @@ abbrev pub may_open : (column : ℕ) → (is_item : Bool) → State → Bool
 may_open column is_item s = is_value s.next
     && (is_past (outer_column s) column || (is_item && is_mapping_at column (innermost s.blocks)))
 
--- a turn at a token where a collection may begin
+-- a turn at a token that begins a collection if one may open there, and is an entry of an open one otherwise
 unfoldable pub line_turn : (column : ℕ) → State → List ℕ → Turn
 line_turn column s text =
     if not (may_open column (is_mark hyphen text) s)
@@ -246,7 +246,7 @@ line_turn column s text =
     else if is_mark hyphen text then item (push_block Sequence column s) text
     else node (Open column) s text
 
--- a turn at a token where a collection may begin; the first document also begins there if it has no `---`
+-- a turn at a token as for `line_turn`; the first document also begins there if it has no `---`
 unfoldable pub fresh_turn : (column : ℕ) → State → List ℕ → Turn
 fresh_turn column s text = elim s.next [
   | next.Start ↦ line_turn column (with_next next.Value (emit Document s)) text
