@@ -1,4 +1,4 @@
--- Definitions for callers, in addition to those of the language: maps as look-ups, and results as answers.
+-- Definitions for callers: maps as look-ups, and results as answers.
 pub use Rattle.subst_language.specs.Calls.Clauses
 pub use Rattle.subst_language.specs.Calls.Outcome
 pub use Rattle.subst_language.specs.Calls.VariableMap

@@ -3,8 +3,8 @@
 //! [`fill_in`] and [`fill_in_slice`] fill in the values of a text: those of mappings, sequences and
 //! documents. Keys, comments, tags and layout are kept, and no value can break out of its scalar.
 //!
-//! [`strings`] lists the values that may change, with their spans, and [`refusals_in`] the refused ones, with
-//! their paths.
+//! [`strings`] lists the values that [`fill_in`] can change, with their spans, and [`refusals_in`] the
+//! refused ones, with their paths.
 //!
 //! [`place_in`] returns the span that spells a range of a string, and [`places_in`] the spans for many
 //! ranges. A [`RangeFinder`] finds the spans for many strings.

@@ -59,7 +59,7 @@ IsPlaceIn Json s token range place = json_places.IsPlaceIn s token range place
 IsPlaceIn Toml s token range place = toml_places.IsPlaceIn s token range place
 IsPlaceIn Yaml s token range place = yaml_places.IsPlaceIn s token range place
 
--- the path to a string; in YAML it has the number of the document
+-- the path to a string; in YAML, it includes the number of the string's document
 abbrev pub PathIn : Format → Type 0
 PathIn Json = List PathStep
 PathIn Toml = List PathStep
@@ -101,7 +101,7 @@ pub record IsRecordIn (format : Format) (s : List ℕ) (it : Refused format) (re
   pub kind : reported.kind ≡ fault_number it.fault
   pub place : IsPlaceIn format s it.token (range_of (Some it.fault)) (range_at reported.position reported.length)
 
--- the record reports that the text s is no document, or the fault of the first refused string of s
+-- the record reports the fault of the first refused string of the text s, or that s is no document
 abbrev pub IsReported : Format → LookUp → List ℕ → FaultRecord → Type 0
 IsReported format look s reported =
     (IsNoDocument format s × (reported.kind ≡ 6))
@@ -116,9 +116,9 @@ before_fault (b ∷ path) = (b ∷ path) ++ codes ": "
 abbrev pub IsTextAfterPath : (path text : List ℕ) → Fault → Type 0
 IsTextAfterPath path text f = (shown : List ℕ) × (text ≡ before_fault path ++ shown) × IsDisplayOfFault f shown
 
--- `text` is empty if the document s can be filled in. If a string is refused, `text` is the text of the first
--- refused string's fault, after the string's path. If s is no document, `text` can be anything, since it is
--- the reader's message.
+-- `text` is empty if the document s can be filled in. If a string is refused, `text` is the first refused
+-- string's path and its fault's text, joined as `IsTextAfterPath` states. If s is no document, `text` can be
+-- anything, since it is the reader's message.
 abbrev pub IsDocumentFaultText : Format → LookUp → List ℕ → List ℕ → Type 0
 IsDocumentFaultText format look s text =
     (((x : List ℕ) × IsFilledIn format look s x) × (text ≡ []))
@@ -130,7 +130,7 @@ pub record IsInvalid (s : List ℕ) (report : Report) : Type 0 where
   pub kind : report.fault.kind ≡ 6
   pub within : LiesIn s report.fault
 
--- the report of a document that is refused
+-- the report of the text s, which is no document or has a refused string
 pub record IsRefusal (format : Format) (look : LookUp) (s : List ℕ) (report : Report) : Type 0 where
   pub reported : IsReported format look s report.fault
   pub within : LiesIn s report.fault

@@ -1,4 +1,4 @@
--- Expanding texts of other tools by a style, and the faults of such texts, for calls from C.
+-- The outputs and faults of other tools' texts that are expanded by a style, for calls from C.
 use Rattle.std.specs.Prelude.{◌≡◌, ◌≢◌, ◌⊎◌, ℕ, Bool, true, false, ◌+◌, ◌<◌, ◌≤◌, List, [], length, Option, Some, None, Ok, Err, IsUtf8, if◌then◌else◌}
 use Rattle.std.specs.List.{slice_get}
 use Rattle.subst_foreign.specs.Foreign.{HasValue, IsKnown}
@@ -162,7 +162,7 @@ IsReported (style_error.Refused first) fault = fault ≡ fault_of_form first
 IsReported (style_error.Unset v) fault = fault ≡ fault_of_variable (variable_of v)
 IsReported (style_error.OutOfMemory e) fault = ⊥
 
--- the form or the variable lies in the text
+-- the error's refused form or unset variable lies in the text
 abbrev pub IsIn : List ℕ → StyleError → Type 0
 IsIn s (style_error.Refused first) = first.position < length s
 IsIn s (style_error.Unset v) = end_of (variable_of v) ≤ length s
@@ -171,7 +171,7 @@ IsIn s (style_error.OutOfMemory e) = Unit {0}
 -- the effect that a call with the result `result` has on the record of a fault
 pub record SetsStyleFault (style : StyleRecord) (given : List Pair) (s : List ℕ) (result : ℕ)
     (old new : StyleFault) : Type 0 where
-  -- the record is that of the refusal, and its spans lie in the text
+  -- if the text is refused, the new record is that of the fault, and both spans of the record lie in the text
   pub refused : result ≡ REFUSED → RefusedByStyle style given s new
   pub within : result ≡ REFUSED → LiesIn s new
   -- unless the text is refused, the record is unchanged

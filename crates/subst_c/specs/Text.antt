@@ -1,4 +1,4 @@
--- Whether sources and values are UTF-8, and the texts that describe a source's fault.
+-- The texts that describe a source's fault, and whether sources and values are UTF-8.
 use Rattle.std.specs.Prelude.{◌≡◌, ℕ, Bool, ◌&&◌, List, [], Some}
 use Rattle.std.specs.List.{list_all}
 use Rattle.std.specs.Str.{is_utf8}
@@ -7,7 +7,8 @@ use Rattle.subst_error.specs.Highlighting.{highlighting_of}
 use Rattle.subst_language.specs.Language.Answer.{Answer, Gives, Refuses}
 use Rattle.subst_c.specs.declared.pairs.Pair.{Pair}
 
--- the text is the line of the fault in the source s, with the fault underlined
+-- `text` is the line of the fault f in the source s, with the fault underlined, or empty if the line is too
+-- wide
 abbrev pub IsHighlighting : List ℕ → Fault → List ℕ → Type 0
 IsHighlighting s f text = text ≡ highlighting_of (Some f) s
 

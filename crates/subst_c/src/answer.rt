@@ -64,7 +64,8 @@ pub fn text_of(alloc: Global, e: &Error) -> Result<String, AllocError>
     }
 }
 
-/// Returns the line of the source's fault, with the fault underlined. Without a fault the text is empty.
+/// Returns the line of the source's fault, with the fault underlined. The result is empty if the source isn't
+/// refused, or if the line is wider than 60 columns.
 ///
 /// # Errors
 ///

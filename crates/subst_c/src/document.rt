@@ -39,7 +39,7 @@ pub enum Unfilled {
 pub struct Report {
     /// The fault, with its span in the document.
     pub fault: FaultRecord,
-    /// The text of the fault.
+    /// The text that describes the fault.
     pub text: String,
 }
 
@@ -54,7 +54,8 @@ impl From<AllocError> for Unfilled {
     }
 }
 
-/// Returns the refusal of `source`, a text that is no document, with the reader's message about `range`.
+/// Returns the refusal of `source`, a text that is no document. The refusal has the reader's `message` about
+/// `range`.
 fn invalid(source: &str, range: Range<usize>, message: String) -> Unfilled
     ensures { IfRefused result (IsInvalid source.now) }
 {
@@ -101,8 +102,8 @@ fn refused(
     }))
 }
 
-/// Returns `path`, a colon and the text of the error `e`, or only that text if `path` is empty. The path is
-/// empty for a document that is a single string.
+/// Returns `path`, a colon, a space and the text of the error `e`, or only that text if `path` is empty. The
+/// path is empty for a document that is a single string.
 ///
 /// # Errors
 ///

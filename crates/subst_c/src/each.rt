@@ -14,7 +14,7 @@ use std::alloc::Global;
 use subst_error::{Error, ExpandError};
 use subst_template::ByteTemplate;
 
-/// The outputs of a source with several rows of pairs.
+/// The outputs of a source, one for each row of pairs.
 #[derive(Drop)]
 pub struct Outputs {
     /// The concatenated outputs.
@@ -49,7 +49,7 @@ impl Outputs {
     }
 }
 
-/// The first refusal of a source with several rows.
+/// The first refusal of a source that is expanded with several rows.
 #[derive(Drop)]
 pub struct Refusal {
     /// The index of the refused row, or 0 if the source is no sentence.

@@ -25,7 +25,7 @@ pub const MISSING_CLOSING_BRACE: u32 = 4;
 /// A needed variable for which there is no pair.
 pub const NO_SUCH_VARIABLE: u32 = 5;
 
-/// A source that isn't a document of the call's format.
+/// A source that isn't a document of the format that the called function expects.
 pub const INVALID_DOCUMENT: u32 = 6;
 
 /// The number of a fault's kind, and its span in the source: a byte offset, and a length in bytes.
@@ -48,7 +48,7 @@ pub fn refuse(e: &Error, fault: &mut FaultRecord) -> u32
     ensures kept { result ≢ REFUSED → fault.new ≡ fault.old }
     ensures others { result ≢ REFUSED → result ≡ OUT_OF_MEMORY }
 
-    // If the error has a fault, it is reported.
+    // Unless the result is `REFUSED`, the error has no fault.
     ensures memory { result ≢ REFUSED → error_fault e.now ≡ None }
 {
     let Some(kind) = kind(e) else {

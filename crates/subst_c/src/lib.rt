@@ -2,9 +2,9 @@
 //!
 //! `include/subst.h.in` declares the functions, and docs/C.md shows how to call them. Each function except
 //! `subst_version` returns one of the numbers of [`outcome`]. No argument is null: if a length is 0, the
-//! header passes an address of its own. In a pair or a row, a pointer with the length 0 may be null. Tests
-//! cover this case, but the contracts don't. An argument that a function writes to overlaps no other
-//! argument.
+//! header's inline functions pass an address of their own. In a pair or a row, a pointer with the length 0
+//! may be null. Tests cover this case, but the contracts don't. An argument that a function writes to
+//! overlaps no other argument.
 #![tactic(auto)]
 
 ghost use Rattle.std.specs.Prelude.{◌≡◌, ◌≢◌, ◌⊎◌, ◌↔◌, ◌+◌, ◌*◌, ◌<◌, ◌++◌, ℕ, List, drop, length, true, false};
@@ -270,7 +270,7 @@ pub extern "C" fn subst_json(
     }
 }
 
-/// Fills in the strings of `source`, a TOML document, like `subst_json`.
+/// Fills in the strings of `source`, a TOML document, as `subst_json` does for a JSON document.
 #[unsafe(no_mangle)]
 pub extern "C" fn subst_toml(
     alloc: Global,
@@ -316,8 +316,8 @@ pub extern "C" fn subst_yaml(
     ensures buffer { FillsBuffer (IsFilledIn Yaml (pair_value pairs.now) source.now)
         result needed.old needed.new buffer.old buffer.new }
 
-    // If the result is `REFUSED`, the source is no document, or the fault is that of the first refused
-    // string. The fault's span is a span of the document.
+    // If the source is refused, either it is no document, or the fault is that of its first refused string.
+    // The fault's span is in the source.
     ensures fault { SetsFault (IsReported Yaml (pair_value pairs.now) source.now) source.now
         result fault.old fault.new }
 
@@ -363,7 +363,7 @@ pub extern "C" fn subst_variables(
     ensures buffer { FillsBuffer (HasRecords source.now (variables_of 0))
         result needed.old needed.new buffer.old buffer.new }
 
-    // If the result is `REFUSED`, the source is no sentence, and the fault is the one that it is refused for.
+    // If the result is `REFUSED`, the source is no sentence, and the fault is the reason.
     ensures fault { SetsFault (IsRecordOf (HasFault 0 source.now)) source.now
         result fault.old fault.new }
     ensures others { IsOther result }
@@ -557,8 +557,8 @@ pub extern "C" fn subst_place(
     ensures text { result ≢ NOT_UTF8 → IsUtf8 source.now }
     ensures not_text { result ≡ NOT_UTF8 → ¬ (IsUtf8 source.now) }
 
-    // The position is a character boundary if the result is `DONE`. The position isn't one if the result is
-    // `NOT_A_BOUNDARY`.
+    // If the result is `DONE`, the position is a character boundary. If the result is `NOT_A_BOUNDARY`, the
+    // position isn't a character boundary.
     ensures boundary { result ≡ DONE → IsCharBoundary source.now position }
     ensures not_boundary { result ≡ NOT_A_BOUNDARY → ¬ (IsCharBoundary source.now position) }
     ensures others { result ≢ DONE → result ≢ NOT_UTF8 → result ≡ NOT_A_BOUNDARY }
@@ -632,8 +632,8 @@ pub extern "C" fn subst_text_by_style(
     style::deliver(alloc, source, style, pairs, buffer, needed, fault)
 }
 
-/// Writes a template for `source`, a text of `envsubst`, to the front of the buffer. Each `$NAME` and
-/// `${NAME}` whose name doesn't begin with a digit is a variable, and all else is text. An unset variable
+/// Writes a template for `source`, a text written for `envsubst`, to the front of the buffer. Each `$NAME`
+/// and `${NAME}` whose name doesn't begin with a digit is a variable, and all else is text. An unset variable
 /// expands to nothing, or to a fault if `optional` is 0.
 #[unsafe(no_mangle)]
 pub extern "C" fn subst_from_envsubst(

@@ -1,4 +1,4 @@
-//! The results of calls, as numbers, which never change.
+//! The results of calls, as numbers. The numbers never change.
 
 /// The call is done.
 pub const DONE: u32 = 0;

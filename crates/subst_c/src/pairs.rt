@@ -31,8 +31,8 @@ pub struct Row<'a> {
     pub pairs: &'a [Pair<'a>],
 }
 
-/// The values of pairs by name; the first pair with a name wins. The map is sorted, so no choice of names
-/// makes it slow.
+/// The values of pairs by name; the first pair with a name wins. The map is sorted, not hashed, so no set of
+/// names makes it slow.
 pub type Index<'a> = BTreeMap<&'a [u8], &'a [u8]>;
 
 /// Pairs as a map; the first pair with a name wins. A name is looked up in the index, or, if there is none,

@@ -47,7 +47,8 @@ pub struct StyleRecord<'a> {
 }
 
 /// The fault of a text that is expanded by a style, with the fault's span. `form` is 0 unless a form is
-/// refused. The message is empty, at offset 0, unless an unset variable has a message.
+/// refused. The message's position and length are 0 unless the fault is an unset variable in a form that
+/// takes a message, such as `${NAME?message}`.
 #[repr(C)]
 #[derive(Clone, Copy)]
 pub struct StyleFault {
@@ -150,7 +151,7 @@ pub enum StyleError<'t> {
     OutOfMemory(AllocError),
 }
 
-/// Expands a text of another tool with the pairs, by the choices of a style.
+/// Expands `text`, a text of another tool, with `pairs`, by the choices of a style.
 ///
 /// # Errors
 ///
@@ -321,7 +322,8 @@ impl StyleFault {
     }
 }
 
-/// Returns the position of the message after an operator at `end`, or 0 if the operator takes no message.
+/// Returns the position of the message after an operator that begins at `end`, or 0 if there is no operator
+/// that takes a message.
 fn message_position(operator: Option<Operator>, end: usize) -> usize
     requires { end + length (written_operator operator) < 2 ^ 64 }
     ensures { result ≡ message_after operator end }

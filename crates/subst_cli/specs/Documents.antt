@@ -116,8 +116,8 @@ pub record IsStringIn (format : Format) (text written : List ℕ) (it : StringAt
 abbrev pub without_path : {Path : Type 0} → RefusalAt Path → StringAt
 without_path it = record { text = it.text; span = it.span }
 
--- the refusal `it` is kept as a pair: the path as a text, and the refused string with its span; if `display`
--- returns a text for the path, the pair has that text
+-- the refusal `it` is kept as the pair of `path` and `kept`: `kept` is the refused string with its span; if
+-- `display` returns a text for the refusal's path, `path` is that text
 abbrev pub IsKept : {Path : Type 0} → (Path → Option (List ℕ)) → RefusalAt Path → String Global × StringAt
     → Type 0
 IsKept display it (path, kept) =
@@ -166,8 +166,9 @@ abbrev pub AreReported : Format → (text : List ℕ) → (path : List ℕ) → 
 AreReported format text path token faults reported = (places : List (Range ℕ))
     × ArePlaces format text token (ranges_of faults) places × AllZip (IsReported path) (zip faults places) reported
 
--- `it` is a fault of the string `one` of the document `text`, with the string's path and the fault's span in
--- `text`; this span is one of `places`, the spans for all of `faults`
+-- `it` is a fault `x` of the string `one` of the document `text`, with the string's path and the fault's span
+-- in `text`; a list `faults` contains `x`, and `places` are the spans of these faults; the span of `it` is
+-- the one for `x`
 abbrev pub IsFaultAt : Format → Placeholders → List Entry → List ℕ → (path : List ℕ) → StringAt → Fault → Type 0
 IsFaultAt format placeholders entries text path one it =
     (x : Fault) × IsFaultOf placeholders entries (text_at one) x

@@ -37,8 +37,8 @@ use Rattle.subst_foreign.specs.declared.refused.TextError.TheVariants as errors
 abbrev pub shell : Grammar
 shell = grammar Shell true (λ operated name. Unit {0})
 
--- `given` is the value of the shell-style text `s` under the look-up `look`, or the name of a required
--- variable that is missing; other unset variables expand to nothing
+-- `given` is the output of the shell-style text `s` under the look-up `look`, or the name of a required
+-- variable that is missing. An unset variable without an operator expands to nothing
 abbrev pub IsValueOf : LookUp → (s : List ℕ) → Given → Type 0
 IsValueOf look s given = (items : text.Text) × text.IsText shell false items [] × (s ≡ text.spelling items)
     × (text.text_value Shell missing.Nothing items look ≡ given)
@@ -66,8 +66,9 @@ abbrev pub NamesUnreadable : List Entry → (s name : List ℕ) → Type 0
 NamesUnreadable above s name = (variables : List VariableAt) × Listing shell 0 0 s variables
     × ((v : VariableAt) × Contains variables v × (v.name ≡ name)) × IsUnreadable above name
 
--- the cause for which the text `s` of a value is refused, with the entries `above` and the entries `before`
--- of earlier lines: `s` or a value isn't UTF-8, a form is refused, or a variable is missing
+-- the text `s` of a value is refused for this cause, with the entries `above` and the entries `before` of
+-- earlier lines. The cause is that `s` or a variable's value isn't UTF-8, that a form is refused, or that a
+-- required variable is missing
 abbrev pub IsRefusedFor : (above before : List Entry) → (s : List ℕ) → Cause → Type 0
 IsRefusedFor above before s NotUtf8 = ¬ (IsUtf8 s)
 IsRefusedFor above before s (Unreadable name) = NamesUnreadable above s (string_bytes name)
@@ -91,8 +92,8 @@ pub data Leaves (above : List Entry) : (before : List Entry) → (s : List ℕ) 
       → line_in s ≡ Sets name value later → Expands above before value x
       → Leaves above (before ++ setting name x ∷ []) later after → Leaves above before s after
 
--- The first refused line of the text `s` is refused for this cause. The entries are `above`, of higher
--- precedence, and `before`, of earlier lines.
+-- the first refused line of the text `s` is refused for this cause. `above` are the entries of higher
+-- precedence, and `before` those of the lines before `s`
 pub data Stops (above : List Entry) : (before : List Entry) → (s : List ℕ) → Cause → Type 0 where
   wrong : {before : List Entry} {s : List ℕ} (why : Bor (List ℕ)) → line_in s ≡ Wrong
       → Stops above before s (NoVariable why)
@@ -112,8 +113,8 @@ pub record GoesOn (above before : List Entry) (s : List ℕ) (entries : List Ent
   pub leaves : (after : List Entry) → Leaves above entries later.now after → Leaves above before s after
   pub stops : (cause : Cause) → Stops above entries later.now cause → Stops above before s cause
 
--- the files turn the entries `before` of earlier files into `after`, in order; values are expanded with the
--- entries `above` too
+-- the files, read in order, turn the entries `before` of earlier files into `after`; values are expanded with
+-- the entries `above` too
 abbrev pub FilesLeave : (above before : List Entry) → List (List ℕ) → (after : List Entry) → Type 0
 FilesLeave above before [] after = before ≡ after
 FilesLeave above before (s ∷ files) after = (middle : List Entry) × Leaves above before (after_mark s) middle
@@ -153,8 +154,8 @@ abbrev pub IsMissingOf : LookUp → (s : List ℕ) → fault.Fault → Type 0
 IsMissingOf look s f = (position : ℕ) × (name : List ℕ) × (f ≡ fault.NoSuchVariable position name)
     × IsValueOf look s (Err (without_question name))
 
--- the error is the first refused form of the text `s`, a required variable that is missing under the look-up
--- `look`, or out of memory
+-- the error is the first refused form of the text `s`, a required variable that is missing under `look`, or
+-- out of memory
 abbrev pub IsFaultOf : LookUp → (s : List ℕ) → Unexpanded → Type 0
 IsFaultOf look s (unexpanded.Text e) = IsRefusalOf shell s e
 IsFaultOf look s (unexpanded.Variable e) = IfSome (error_fault e) (IsMissingOf look s)

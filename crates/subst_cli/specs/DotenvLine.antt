@@ -30,8 +30,8 @@ before bytes found = option_map (λ t. record { text = bytes ++ t.text; rest = t
 abbrev pub dollars : List ℕ
 dollars = dollar ∷ dollar ∷ []
 
--- the shell-style text of a backslash and the byte `c`, if they are an escape: in double quotes if `c` is
--- `n`, `t`, `r`, a quote, a backslash or a dollar, and without quotes if `c` is a dollar
+-- the shell-style text of a backslash and the byte `c`, if they are an escape. In double quotes, `c` is then
+-- `n`, `t`, `r`, a double quote, a backslash or a dollar; without quotes, it is a dollar
 abbrev pub escape : Quote → ℕ → Option (List ℕ)
 escape Double c =
     if c == 110 then Some (10 ∷ []) else if c == 116 then Some (9 ∷ [])
@@ -40,8 +40,8 @@ escape Double c =
 escape Bare c = if c == 36 then Some dollars else None
 escape Single c = None
 
--- the shell-style text of the bytes `b` and `c`, if they are read together: an escape, or, outside single
--- quotes, a dollar written twice
+-- the shell-style text of the bytes `b` and `c`, if they are read together: outside single quotes, an escape
+-- or a dollar written twice
 abbrev pub pair_text : Quote → (b c : ℕ) → Option (List ℕ)
 pair_text Single b c = None
 pair_text quote b c =
@@ -79,14 +79,14 @@ abbrev pub at_end : Quote → Option Text
 at_end Bare = Some (record { text = []; rest = [] })
 at_end _ = None
 
--- `pair` prepended to the value `after_pair`, or `bytes` prepended to the value `after_byte` if there is no
--- `pair`; `pair` is the text of two bytes, `bytes` that of one
+-- `pair` prepended to the value `after_pair`, or, without a `pair`, `bytes` prepended to the value
+-- `after_byte`; `pair` is the text that two bytes become, `bytes` the text that one byte becomes
 abbrev pub joined : Option (List ℕ) → List ℕ → Option Text → Option Text → Option Text
 joined (Some pair) bytes after_pair after_byte = before pair after_pair
 joined None bytes after_pair after_byte = before bytes after_byte
 
--- the value with these quotes, parsed from the bytes after its opening quote, if any; none if this quote
--- isn't closed
+-- the value with these quotes, parsed from bytes that begin after any opening quote; none if the closing
+-- quote is missing
 abbrev pub text_in : Quote → List ℕ → Option Text
 text_in quote [] = at_end quote
 text_in quote (b ∷ []) =

@@ -60,7 +60,7 @@ IsFaultBy forms entries template it =
     IsRefusedAt (look_for forms (look_up_in entries)) template it.cause it.range.start
     ⊎ IsUnreadableIn forms entries template it
 
--- `it` is the fault `x` of the template of `s`, mapped back to `s` if that is a text of another tool
+-- `it` is the fault `x` of the template of `s`, mapped back to `s` if `s` is another tool's text
 abbrev pub IsMovedTo : Placeholders → List Entry → (s template : List ℕ) → Fault → Fault → Type 0
 IsMovedTo Own entries s template x it = it ≡ x
 IsMovedTo (Chosen chosen) entries s template x it = IsMappedIn (grammar_of chosen entries) s template x it

@@ -84,8 +84,8 @@ abbrev pub forms_of : Placeholders → Option Forms
 forms_of Own = None
 forms_of (Chosen chosen) = Some chosen.forms
 
--- the look-up for the names in a template, from the look-up `look` of the variables. The template was
--- converted from a text of these forms, or, without forms, is the source itself
+-- the look-up with which a template is expanded; `look` has the values of the variables. The template was
+-- converted from a text in these forms; without forms, it is the source itself
 abbrev pub look_for : Option Forms → LookUp → LookUp
 look_for None look = look
 look_for (Some forms) look = seen_by forms look

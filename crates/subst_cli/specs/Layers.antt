@@ -43,7 +43,7 @@ is_unreadable entries name = option_map_or is_none (entry_value entries name) fa
 abbrev pub IsUnreadable : List Entry → List ℕ → Type 0
 IsUnreadable entries name = IsTrue (is_unreadable entries name)
 
--- the name is set in the look-up, or `unreadable`: set to a value that isn't UTF-8
+-- the look-up has a value for the name, or the name is `unreadable`: its value isn't UTF-8
 abbrev pub IsKnown : LookUp → (List ℕ → Bool) → List ℕ → Type 0
 IsKnown look unreadable name = IsTrue (is_some (look name) || unreadable name)
 
@@ -63,11 +63,11 @@ entry_in bytes =
     then Some (record { name = name_in bytes; value = text_in (value_in bytes) })
     else None
 
--- the entries of an environment, in order
+-- the entries of an environment that have variable names, in order
 abbrev pub environment_of : List (List ℕ) → List Entry
 environment_of entries = filter_map entry_in entries
 
--- the entries of the names and values of options, in order
+-- the entries of options, in order; each pair is the name and the value of an entry
 abbrev pub entries_of_pairs : List (String Global × String Global) → List Entry
 entries_of_pairs pairs =
     map (λ pair. record { name = string_bytes pair.0; value = Some (string_bytes pair.1) }) pairs

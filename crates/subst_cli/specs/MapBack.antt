@@ -32,8 +32,8 @@ counterpart positions variables at = last_at (zip positions variables) at
 abbrev pub positions_of : Tree → List ℕ
 positions_of t = map (λ v. v.position) (variables_of 0 t)
 
--- the second cause is the first one, mapped back from a template to the text. A missing variable has the name
--- that it has in the text. Any other cause is unchanged
+-- the second cause is the first one, mapped back from a template to the text. `NoSuchVariable` becomes
+-- `Unset`, with the variable's name in the text. Any other cause is unchanged
 abbrev pub IsMappedCause : Forms → Cause → Cause → Type 0
 IsMappedCause forms (Refused (error.NoSuchVariable e)) (Unset mapped) =
     string_bytes mapped.name ≡ looked_up_name (Some forms) (string_bytes e.name)
@@ -62,8 +62,8 @@ AreCounterparts g s template counterparts = (t : Tree) → Spells t template →
     × Listing g 0 0 s variables
     × ((at : ℕ) → counterpart_at counterparts at ≡ counterpart (positions_of t) variables at)
 
--- `counterparts` has the text's variable of each pair, by the position of the template's variable; of pairs
--- with the same position, the last one wins
+-- `counterparts` maps, for each of `pairs`, the position of the template's variable to the text's variable;
+-- of pairs with the same position, the last one wins
 abbrev pub ArePaired : {S : Type 0} → List (TemplateVariable × FoundVariable) → HashMap ℕ FoundVariable S → Type 0
 ArePaired pairs counterparts = (at : ℕ) → counterpart_at counterparts at
     ≡ last_at (map (λ pair. (pair.0.position, variable_of pair.1)) pairs) at

@@ -22,13 +22,13 @@ part_after Outside b = if b == 34 then Inside else Outside
 part_after Inside b = if b == 34 then Outside else if b == 92 then Escaped else Inside
 part_after Escaped b = Inside
 
--- a byte in this part of JSON opens a level of arrays and objects
+-- the byte, in this part of JSON, opens an array or object
 abbrev pub does_open : Part → ℕ → Bool
 does_open Outside b = b == 91 || b == 123
 does_open Inside b = false
 does_open Escaped b = false
 
--- a byte in this part of JSON closes a level of arrays and objects
+-- the byte, in this part of JSON, closes an array or object
 abbrev pub does_close : Part → ℕ → Bool
 does_close Outside b = b == 93 || b == 125
 does_close Inside b = false
@@ -78,7 +78,8 @@ is_without None next = false
 is_without (Some First) next = not (is_second next)
 is_without (Some Second) next = true
 
--- the bytes begin with the escape of half a surrogate pair without the escape of the other half
+-- the bytes begin with the escape of a lone surrogate: a second half, or a first half that no second half
+-- follows
 abbrev pub is_lone_at : List ℕ → Bool
 is_lone_at bs = is_without (half_at bs) (half_at (drop 6 bs))
 
@@ -107,8 +108,8 @@ lone_at at zero (b ∷ bs) =
 abbrev pub begins_comment : List ℕ → Bool
 begins_comment bs = (get_or bs 0 0 == 47) && (get_or bs 1 0 == 47 || get_or bs 1 0 == 42)
 
--- the mistake for which the reader stopped between `before` and `rest`, with its offset; the mistake is a
--- comment, a variable, a bracket after a comma, text after a document, or half a surrogate pair
+-- the mistake that stopped the reader between `before` and `rest`, with its offset: a comment, a variable, a
+-- bracket after a comma, text after a document, or half a surrogate pair
 abbrev pub mistake_in : List ℕ → List ℕ → Bool → Option (Mistake × ℕ)
 mistake_in before rest is_document =
     let first = get_or rest 0 0 in
@@ -149,7 +150,7 @@ or_message stop None =
 abbrev pub unread_at : List ℕ → ReaderStop → Unfilled
 unread_at text stop = or_message stop (mistake_of text stop)
 
--- The mistake that a message of the reader of TOML states, if it is known.
+-- the mistake that the TOML reader's message states, if the mistake is known
 abbrev pub mistake_of_toml : List ℕ → Option Mistake
 mistake_of_toml message = if bytes_eq message (codes "cannot recurse further; max recursion depth met")
     then Some (TooDeep TOML_LEVELS) else None

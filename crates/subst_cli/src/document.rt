@@ -103,7 +103,8 @@ fn add_uses(
     Ok(())
 }
 
-/// Returns a document's faults: those of its strings, or one if the document can't be read or confirmed.
+/// Returns a document's faults: those of its strings, or one fault if the document can't be read or the
+/// result for it can't be confirmed.
 fn faults_in(
     alloc: Global,
     format: Format,

@@ -197,7 +197,8 @@ struct Hints<'s, 'h> {
 }
 
 impl Hints<'_, '_> {
-    /// Appends a hint for each unset variable of a value whose line begins at the byte offset `start`.
+    /// Appends a hint for each unset variable of a value. The hint's position is that of `start`, the byte
+    /// offset of the value's line.
     ///
     /// # Errors
     ///

@@ -25,7 +25,7 @@ pub(crate) fn read<E: Env>(alloc: Global, rt: &E) -> Result<Vec<Vec<u8>>, AllocE
     Ok(entries)
 }
 
-/// Copies the entry of the environment at `index` to the start of `buffer`, which is extended if needed.
+/// Copies the environment's entry at `index` to the start of `buffer`, and enlarges `buffer` if needed.
 /// Returns the entry's length, or `None` if there is no such entry.
 fn entry_len<E: Env>(
     rt: &E,

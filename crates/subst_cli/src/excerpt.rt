@@ -7,7 +7,8 @@ use std::ops::Range;
 use subst::error::Underlined;
 use unicode_width::{UnicodeWidthChar, UnicodeWidthStr};
 
-/// The widest excerpt, in columns. Longer lines are cut around the fault.
+/// The greatest width of a line in an excerpt, in columns, without the indentation. Wider lines are cut
+/// around the fault.
 const WIDEST: usize = 60;
 
 /// The most bytes of a line that are read on each side of a fault's start.
@@ -46,7 +47,7 @@ fn part(source: &[u8], range: Range<usize>) -> &[u8] {
     source.get(range).unwrap_or(&[])
 }
 
-/// Returns the range of the line around an offset, cut near the offset if the line is long.
+/// Returns the range of the line around an offset. A long line is cut to the bytes near the offset.
 fn around(source: &[u8], offset: usize) -> Range<usize> {
     let near = within(source, offset, NEAR);
     if are_printable(part(source, near.start..near.end)) {

@@ -327,7 +327,8 @@ fn after(alloc: Global, kept: &[u8], output: String) -> Result<Vec<u8>, AllocErr
     Ok(bytes)
 }
 
-/// Returns the uses of variables in a source, with the ranges of the names, or the faults of the source.
+/// Returns the uses of variables in a source, or the source's faults. Each use has the range of its
+/// variable's name.
 pub(crate) fn uses(
     alloc: Global,
     source: &Source,

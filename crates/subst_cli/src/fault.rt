@@ -41,13 +41,13 @@ pub enum Cause {
     NotConfirmed,
     /// A line of a values file or a `.env` file is wrong, as this message explains.
     NoVariable(&'static str),
-    /// A form of another tool's text is refused.
+    /// This form in another tool's text is refused.
     Form(ShellForm),
     /// A default looks like another tool's, as this message explains.
     Default(String),
 }
 
-/// A required variable of another tool's text that is unset, or that has `:?` and is empty.
+/// An unset required variable of another tool's text, or an empty variable with `:?`.
 #[derive(Drop)]
 pub struct Unset {
     /// The name.
@@ -128,7 +128,7 @@ pub(crate) fn range_of_name(position: usize, name: &str) -> Range<usize>
     position..position.saturating_add(name.len())
 }
 
-/// Returns the message of a refused form, with what to write instead.
+/// Returns the message for a refused form: what is wrong, and what to do instead.
 fn instead_of(form: ShellForm) -> &'static str {
     match form {
         ShellForm::NoName => "`${` without a name; write `$$` for a dollar",

@@ -10,7 +10,7 @@ use crate::options::{Format, InputFormat};
 pub enum FormatRule<'w> {
     /// One format for all sources.
     One(InputFormat),
-    /// The format by each path's ending, after this suffix is removed from the path.
+    /// A format for each source, chosen by its path's ending after this suffix is removed.
     ByEnding(&'w str),
 }
 
@@ -44,7 +44,7 @@ fn format_by_ending(path: &[u8]) -> InputFormat
     }
 }
 
-/// Returns a path without a suffix, or the whole path if it doesn't end in the suffix.
+/// Removes a suffix from a path. Returns the whole path if it doesn't end in the suffix.
 fn without_suffix<'p>(path: &'p [u8], suffix: &[u8]) -> &'p [u8]
     ensures { result.now ≡ rule.without_suffix suffix.now path.now }
 {

@@ -1,4 +1,5 @@
-//! Hints: likely mistakes, printed to standard error. They never change the output or the exit status.
+//! Hints about likely mistakes. A hint is printed to standard error, and never changes the output or the exit
+//! status.
 
 use crate::expansion::Expander;
 use crate::fault::{Cause, Fault};
@@ -263,7 +264,7 @@ fn name_before(bytes: &[u8]) -> Option<(&[u8], &[u8])> {
     Some((front.strip_suffix(b"${")?, name))
 }
 
-/// A hint for an unset variable: its name, and the line to be printed.
+/// A hint for an unset variable: the variable's name, and the line to be printed.
 #[derive(Drop)]
 pub struct UnsetHint {
     pub name: String,

@@ -118,7 +118,7 @@ fn put<'v>(values: &mut Values<'v>, name: &'v str, value: &'v str) -> Result<(),
     Ok(())
 }
 
-/// Converts names and values of options into entries, in the same order.
+/// Converts pairs of a name and a value into entries, in the same order.
 pub(crate) fn from_pairs(alloc: Global, pairs: &[Pair]) -> Result<Vec<Entry>, AllocError>
     ensures { IfOk result (λ entries. entries_of entries.items ≡ entries_of_pairs pairs.now) }
 {
@@ -131,9 +131,9 @@ pub(crate) fn from_pairs(alloc: Global, pairs: &[Pair]) -> Result<Vec<Entry>, Al
     Ok(entries)
 }
 
-/// Returns the entries that take precedence over `.env` files, the highest first. The entries of options come
-/// first, then those of values files, both from the last to the first. Those of the environment follow, in
-/// their order.
+/// Returns the entries that take precedence over `.env` files, the highest precedence first. The entries of
+/// `--set` come first, then those of values files, both from the last to the first. The environment's entries
+/// follow, in their own order.
 pub(crate) fn above(
     mut set: Vec<Entry>,
     lines: Vec<Entry>,

@@ -13,7 +13,7 @@ use subst::foreign::Forms;
 /// The most bytes of a default that are read, so that nested defaults don't take quadratic time.
 const MOST_OF_DEFAULT: usize = 1 << 10;
 
-/// The widest default in a listing, in columns. Longer ones are cut.
+/// The width, in terminal columns, to which wider defaults in a listing are cut.
 const WIDEST_DEFAULT: usize = 240;
 
 /// A listed variable.

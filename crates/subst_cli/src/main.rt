@@ -1,8 +1,8 @@
 //! The program `subst`: expands the variables in files, or in standard input.
 //!
 //! `subst [OPTIONS] [FILE]..`: the module [`options`] parses the arguments, and `subst_filter_lib::status`
-//! has the exit statuses. The files `args`, `stdin` and `stdout` hold a run that expands a greeting; the
-//! tests in `tests/` cover all else.
+//! has the exit statuses. The run stored in this crate's files `args`, `stdin` and `stdout` expands a
+//! greeting; the tests in `tests/` cover all else.
 #![tactic(auto)]
 
 mod document;

@@ -149,7 +149,8 @@ where
     }
 }
 
-/// Returns the variables in `text`, by the positions of the variables with the same indices in `template`.
+/// Returns a map from the positions of variables in `template` to the variables at the same indices in
+/// `text`.
 ///
 /// # Errors
 ///
@@ -297,8 +298,8 @@ pub(crate) fn looked_up_name(name: &str, forms: Option<Forms>) -> &str
     }
 }
 
-/// Removes the digit 1, 2 or 3 that a name in a template of a shell-style text may begin with (see
-/// `ShellMap`). Any other name is returned unchanged.
+/// Removes a leading digit 1, 2 or 3 from a name in a template of a shell-style text (see `ShellMap`). A name
+/// that begins with none of these digits is returned unchanged.
 #[tactic(auto, using(crate::proofs::MapBackLemmas::no_question))]
 fn without_question(name: &str) -> &str
     ensures { result.now ≡ looked_up (Some Shell) name.now }

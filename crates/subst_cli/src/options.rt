@@ -83,7 +83,7 @@ pub struct Chosen<'w> {
 pub enum Choice<'w> {
     /// All names.
     All,
-    /// The names in the first field, and all names that begin with a text in the second field.
+    /// The names in the first field, and all names that begin with a prefix in the second field.
     Only(OnlyNames<'w>, Vec<&'w str>),
     /// The names that are set, and all names that an operator follows.
     Known,
@@ -129,7 +129,7 @@ pub enum Action<'w> {
 /// A name and its value.
 pub type Pair = (String, String);
 
-/// A name and the path of the file with its value.
+/// A name, and the path of the file whose contents are the name's value.
 pub type NamedFile<'w> = (&'w str, &'w str);
 
 /// The options of a run.
@@ -159,14 +159,15 @@ pub struct Options<'w> {
     pub formats: FormatRule<'w>,
     /// The placeholders in the sources.
     pub placeholders: Placeholders<'w>,
-    /// Whether hints are printed at unset variables of shell-style texts. `--optional` turns the hints off.
+    /// Whether hints are printed for unset variables in shell-style texts. `--optional` turns the hints off.
     pub hints_unset: bool,
     /// Whether a default that looks like another tool's default is a fault. It is a fault with `--check
     /// --strict`, and otherwise only causes a hint.
     pub refuses_defaults: bool,
     /// The action of the run.
     pub action: Action<'w>,
-    /// The suffix of templates in directories, which is removed from output names. It may be empty.
+    /// The suffix of `--strip`, or an empty text if that option isn't set. In directories, only files with
+    /// this suffix are templates. With `--output-folder`, the suffix is removed from the names of outputs.
     pub suffix: &'w str,
     /// The files and directories to be expanded, of which there is at least one.
     pub files: Vec<&'w str>,

@@ -7,7 +7,7 @@ use std::os::unix::fs::{MetadataExt, OpenOptionsExt, PermissionsExt, fchown};
 use std::path::{Path, PathBuf};
 use std::{fs, io};
 
-/// The mode of a new file without a template, before the umask applies.
+/// The mode of a new file that takes no mode from a template, before the umask applies.
 pub(crate) const NEW_MODE: u32 = 0o666;
 
 /// The mode of a new file until it gets the mode of the file that it replaces.

@@ -25,7 +25,7 @@ use subst::error::ParseError;
 use subst::foreign::{FormAt, Forms, Missing, Operator, TextError, TextVariable};
 use subst::{ByteTemplate, Error, Variable, VariableKind};
 
-/// A result for a text or byte string, or its faults in the order of their positions.
+/// The outcome for a text or byte string: a `T`, or the faults in the order of their positions.
 pub(crate) type OrFaults<T> = Result<T, Vec<Fault>>;
 
 /// Expands a text, a byte string or a string of a document, or returns its faults.
@@ -183,7 +183,7 @@ fn unreadable_in(
     unreadable_of(alloc, template.variables(alloc)?, forms, variables)
 }
 
-/// Returns an empty list of faults, for bytes that aren't a template because of `e`.
+/// Returns an empty list of faults for bytes whose parsing as a template failed with `e`.
 ///
 /// # Errors
 ///
@@ -268,7 +268,7 @@ fn all_faults(
     Ok(faults)
 }
 
-/// Returns whether an error reports a variable as missing because its value isn't UTF-8.
+/// Returns whether an error reports as missing a variable whose value isn't UTF-8.
 fn is_unreadable(e: &Error, forms: Option<Forms>, variables: &Variables<'_>) -> bool
     ensures { result ≡ lacks_unreadable forms variables.now e.now }
 {
@@ -297,7 +297,7 @@ pub(crate) struct Occurrence {
     pub name: String,
     /// The byte range of the name in the text that was searched for uses.
     pub range: Range<usize>,
-    /// The expansion of the variable if it is unset.
+    /// How the variable expands if it is unset.
     pub kind: VariableKind,
     /// The default, escaped for a terminal, or an empty text.
     pub default: String,

@@ -10,8 +10,8 @@ pub(crate) struct Position {
     pub column: usize,
 }
 
-/// A converter of byte offsets into lines and columns. If the offsets increase, and none is between a
-/// carriage return and its line feed, each byte is read once.
+/// A converter of byte offsets into lines and columns. It assumes that no offset is between a carriage return
+/// and its line feed. If the offsets increase, each byte is read once.
 #[derive(Drop)]
 pub(crate) struct Positions<'s> {
     source: &'s [u8],

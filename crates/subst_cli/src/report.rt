@@ -162,7 +162,8 @@ impl<'r> Report<'r> {
         self.print(Severity::Exhaustion, ": error: out of memory\n");
     }
 
-    /// Writes a text to standard error, and raises the severity of the report. A failed write is ignored.
+    /// Writes a text to standard error, and raises the severity of the report to at least `worst`. A failed
+    /// write is ignored.
     fn print(&mut self, worst: Severity, text: &str)
         ensures { self.new.worst ≡ worse self.old.worst worst }
     {

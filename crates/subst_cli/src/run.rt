@@ -481,8 +481,8 @@ fn all_templates(
     Ok(all)
 }
 
-/// Writes bytes to a file, and creates its missing directories. A failure is reported for the directory if no
-/// file can be created in it, and otherwise for the file.
+/// Writes bytes to a file, and creates its missing directories. A failure is reported for the file's
+/// directory if that can't be created or denies the new file, and otherwise for the file.
 fn write_below(
     rt: &HostRuntime,
     path: &str,

@@ -97,7 +97,7 @@ fn value_bytes(bytes: &[u8], line_end: LineEnd) -> &[u8]
     }
 }
 
-/// Returns bytes without their last line end: a line feed, or a carriage return and a line feed.
+/// Returns bytes without a final line end: a line feed, or a carriage return and a line feed.
 fn without_line_end(bytes: &[u8]) -> &[u8]
     ensures { result.now ≡ file.without_line_end bytes.now }
 {
@@ -183,7 +183,7 @@ fn add_line(alloc: Global, line: &[u8], entries: &mut Vec<Entry>) -> Result<bool
     Ok(true)
 }
 
-/// Returns the fault of a wrong line that begins at an offset.
+/// Returns the fault of a wrong line. `offset` is the byte offset in the file where the line begins.
 fn fault(line: &[u8], offset: usize) -> LineFault {
     let line = without_return(line);
     let begun = after_blanks(line);

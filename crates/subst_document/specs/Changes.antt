@@ -12,7 +12,8 @@ is_other (Kept n) = false
 is_other (Text x) = true
 is_other (Inside' shape all) = true
 
--- a change for its first value alone: `Kept n`, which is for one value and n more after it, becomes `Kept 0`
+-- a change, limited to the first of its values: `Kept n`, which is for one value and n more after it, becomes
+-- `Kept 0`
 abbrev pub one : Change → Change
 one (Kept n) = Kept 0
 one (Text x) = Text x
@@ -68,7 +69,7 @@ AreMade Made _ changes _ = ⊥
 abbrev pub IsUpToKept : List Change → List Change → Type 0
 IsUpToKept changes all = (n : ℕ) × (all ≡ changes ++ replicate n (Kept 0))
 
--- whether the changes found so far change some value
+-- whether the changes found so far change some value; `changes` is empty until a value changes
 abbrev any_other : List Change → Bool
 any_other [] = false
 any_other (change ∷ changes) = true

@@ -52,9 +52,9 @@ IsFilledUpTo IsToken IsPart Fits Becomes strings text rest old new =
     → IsFilledText IsToken IsPart Fits Becomes more rest filled
     → IsFilledText IsToken IsPart Fits Becomes (strings ++ more) text (appended ++ filled))
 
--- The outcome for x, the next string of `text`. If x is unchanged, `new` is `old`. If x changes, `new` is
--- `old` followed by the part of `text` before `rest`, with x replaced by its value. `NotFound` states only
--- that x changes.
+-- The outcome for x, the next string of `text`. `Unchanged` states that x is unchanged and that `new` is
+-- `old`. `Changed` states that x changes. Then `new` is `old` followed by the part of `text` before `rest`,
+-- with x replaced by its value. `NotFound` states only that x changes.
 abbrev pub IsStringOutcome : (List ℕ → List ℕ → Type 0) → (List ℕ → List ℕ → List ℕ → Type 0)
     → (List ℕ → List ℕ → Type 0) → (List ℕ → List ℕ → Type 0) → List ℕ
     → (text : List ℕ) → (old : List ℕ) → (new : List ℕ) → StringOutcome → Type 0
@@ -73,7 +73,7 @@ AreSpelled IsToken source start (it ∷ rest) =
     × IsToken (slice_range source it.span.start it.span.end) (string_bytes it.text)
     × AreSpelled IsToken source it.span.end rest
 
--- the text of a string that has a span
+-- the bytes of the string in a `StringAt`
 abbrev pub text_at : StringAt → List ℕ
 text_at it = string_bytes it.text
 

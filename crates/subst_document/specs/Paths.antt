@@ -10,7 +10,7 @@ pub data PathStep : Type 0 where
   Key : List ℕ → PathStep
   Index : ℕ → PathStep
 
--- a step of the code, converted into a step of these definitions
+-- a path step, converted from the type in the code to the type of these definitions
 abbrev pub step_of : steps.PathStep → PathStep
 step_of (variants.Key key) = Key (string_bytes key)
 step_of (variants.Index index) = Index index
@@ -20,7 +20,7 @@ pub record Located : Type 0 where
   pub path : List PathStep
   pub text : List ℕ
 
--- a refused string, with its path and its fault
+-- a refused string, with its path and its fault; in `AreRefusals` the fault is never `None`
 pub record Refusal : Type 0 where
   pub path : List PathStep
   pub text : List ℕ

@@ -2,8 +2,8 @@
 use Rattle.std.specs.Prelude.{ℕ, ◌+◌, List, [], ◌∷◌, ◌++◌, drop, slice_range}
 use Rattle.subst_document.specs.declared.edits.StringAt.{StringAt}
 
--- `source` from the position `from` on, with each of these strings replaced by `bytes` of the string's index.
--- The first string has the index `index`.
+-- `source` from the position `from` on, with each of these strings replaced. `bytes` maps a string's index to
+-- the string's new bytes. The first string has the index `index`.
 abbrev pub with_plain : (ℕ → List ℕ) → (source : List ℕ) → ℕ → ℕ → List StringAt → List ℕ
 with_plain bytes source from index [] = drop from source
 with_plain bytes source from index (it ∷ rest) =

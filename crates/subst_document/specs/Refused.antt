@@ -23,8 +23,8 @@ abbrev pub HasRangeInText : Refusal → Type 0
 HasRangeInText it = IsRangeIn it.text (range_of it.fault)
 
 -- `refusal` is the refusal of the string `it`, which has the index `index`. The refusal has the string's text
--- and span, and a path to the string, by `LeadsTo`. The string is refused for the refusal's fault, and the
--- range of the fault is in the string.
+-- and span, and a path that leads to the string, as `LeadsTo` states. The string is refused for the refusal's
+-- fault, and the range of the fault is in the string.
 pub record IsRefusalOf {P : Type 0} (ask : List ℕ → Answer → Type 0) (LeadsTo : ℕ → P → Type 0) (index : ℕ)
     (it : StringAt) (refusal : RefusalAt P) : Type 0 where
   pub path : LeadsTo index refusal.path
@@ -35,8 +35,8 @@ pub record IsRefusalOf {P : Type 0} (ask : List ℕ → Answer → Type 0) (Lead
   pub refused : ask (text_at it) (Refuses fault)
   pub range : IsRangeIn (text_at it) (range_of (error_fault refusal.error))
 
--- The refusals of those strings that are refused, in order. The others have outputs. `index` is the index of
--- the first string, and `LeadsTo` holds of the index of a string and a path to it.
+-- `refusals` are the refusals of those strings that are refused, in order. Every other string has an output.
+-- `index` is the index of the first string, and `LeadsTo` holds of the index of a string and a path to it.
 abbrev pub AreRefusedOf : {P : Type 0} → (List ℕ → Answer → Type 0) → (ℕ → P → Type 0) → ℕ → List StringAt
     → List (RefusalAt P) → Type 0
 AreRefusedOf ask LeadsTo index [] refusals = refusals ≡ []

@@ -1,4 +1,4 @@
--- Reports of a document, in the form of a compiler's errors.
+-- Reports of refused strings in a document, in the form of a compiler's errors.
 use Rattle.std.specs.Prelude.{◌≡◌, ◌≢◌, ◌⊎◌, ℕ, ◌-◌, nat_eq, if◌then◌else◌, List, [], ◌∷◌, ◌++◌, length, take, Option, Some, None, IfSome, codes}
 use Rattle.std.specs.Fmt.{decimal}
 use Rattle.std.specs.List.{ends_with}
@@ -9,7 +9,7 @@ use Rattle.subst_error.specs.Highlighting.{highlighting_at}
 use Rattle.subst_error.specs.Position.{position_at}
 use Rattle.subst_error.specs.Range.{range_of}
 
--- The underlined line `excerpt`. If the underlined range is empty, a caret is added.
+-- The underlined line `excerpt`. If the underline ends in a space, as for an empty range, a caret is added.
 abbrev pub with_caret : List ℕ → List ℕ
 with_caret excerpt =
     if ends_with nat_eq excerpt (codes " \n") then take (length excerpt - 2) excerpt ++ codes " ^\n" else excerpt
@@ -47,8 +47,8 @@ AreReports Reports (it ∷ rest) text =
     (first : List ℕ) × (more : List ℕ) × (text ≡ first ++ more) × Reports it first
     × AreReports Reports rest more
 
--- Either `text` is the reports of all refused strings, and there is at least one. Or `text` is the message of
--- `fault`, without a place.
+-- Either `text` is the reports of all refused strings, and there is at least one such string. Or `text` is
+-- the report of `fault`, without a place.
 abbrev pub ReportsAll : {T : Type 0} → (List T → Type 0) → (List ℕ → List ℕ → T → List ℕ → Type 0)
     → (file s : List ℕ) → Option Fault → List ℕ → Type 0
 ReportsAll {T} AreAll Reports file s fault text =

@@ -32,8 +32,8 @@ pub record IsPiece (IsPart : List ℕ → List ℕ → Type 0) (piece : Piece) :
   pub spells : (piece.before ≡ piece.text) ⊎ IsPart piece.before piece.text
   pub stays : (piece.after ≡ piece.before) ⊎ IsPlaceholder piece.text
 
--- the texts of these pieces, concatenated; `befores` concatenates their spellings in the tokens, and `afters`
--- those in the new tokens
+-- the texts of these pieces, concatenated; `befores` concatenates their spellings in the old token, and
+-- `afters` those in the new token
 abbrev pub texts : List Piece → List ℕ
 texts = flat_map (λ piece. piece.text)
 
@@ -95,9 +95,9 @@ DoesntFit Fits Becomes text =
     (before placeholder after value : List ℕ) × (text ≡ before ++ (placeholder ++ after))
     × IsPlaceholder placeholder × Becomes placeholder value × ¬ (Fits value)
 
--- `new` replaces `token`, a token of the string `text`. Only placeholders are rewritten, unless the kind of
--- `token` can't spell some placeholder's value, or `value` isn't the concatenation of the outputs of `text`'s
--- parts.
+-- `new` replaces `token`, a token of the string `text`, and `value` is the string's new value. Only
+-- placeholders are rewritten, unless the kind of `token` can't spell some placeholder's value, or `value`
+-- isn't the concatenation of the outputs of `text`'s parts.
 abbrev pub IsRespelled : (IsPart : List ℕ → List ℕ → List ℕ → Type 0) → (Fits : List ℕ → List ℕ → Type 0)
     → (Becomes : List ℕ → List ℕ → Type 0) → (text value token new : List ℕ) → Type 0
 IsRespelled IsPart Fits Becomes text value token new =

@@ -1,4 +1,4 @@
--- A bound of a fault's range. Calls that fill in trees state it for their errors.
+-- A bound on the end of a fault's range. Calls that fill in trees state the bound for their errors.
 use Rattle.std.specs.Prelude.{◌^◌, ◌<◌, Some}
 use Rattle.subst_error.specs.Fault.{Fault}
 use Rattle.subst_error.specs.Range.{range_of}

@@ -87,7 +87,7 @@ impl FoundChanges {
         Ok(())
     }
 
-    /// Appends to the list the values that are kept after the last change, as one `Kept`.
+    /// Appends one `Kept` to the list for all values that are kept after the last change, if there are any.
     ///
     /// # Errors
     ///

@@ -26,10 +26,10 @@ pub trait Pieces {
     // Whether the token's piece between two positions spells the part of the string between them.
     ghost is_piece: { Self → Position → Position → Type 0 };
 
-    /// Returns the end of the token's piece that begins at `from` and spells the string up to `offset`.
-    /// `is_start` is set if a range starts at `offset`. The piece then includes any bytes at its end that
-    /// spell nothing. Returns `None` if the piece isn't read as the part of the string between `from` and
-    /// `offset`.
+    /// Returns the end of the token's piece that begins at `from` and spells the string up to `offset`. If
+    /// `is_start`, then `offset` is the start of one of the ranges of [`spans`]. The piece then includes any
+    /// bytes at its end that spell nothing. Returns `None` if the piece isn't read as the part of the string
+    /// between `from` and `offset`.
     fn piece_end(
         &self,
         alloc: Global,

@@ -85,9 +85,9 @@ fn each_refusal<R: ReportFormat>(
     Ok(text)
 }
 
-/// Returns the report of the string at `path`, refused for `e`. The message is the text of `e`, with the path
-/// before it if the path isn't empty. `place` is the byte range of the fault in `source`, or `None` if
-/// unknown.
+/// Returns the report of the string at `path`, refused with the error `e`. The message is `path: ` and the
+/// text of `e`, or only that text if the path is empty. `place` is the byte range of the fault in `source`,
+/// or `None` if unknown.
 ///
 /// # Errors
 ///
@@ -127,8 +127,8 @@ fn text_of(alloc: Global, e: &Error) -> Result<String, AllocError>
     }
 }
 
-/// Returns `file: message`. `place` is a byte range of `source`, or `None`. If there is a place, its line and
-/// column precede the message, and the underlined line follows.
+/// Returns `file:line:column: message` for the byte range `place` of `source`, and then the source line with
+/// `place` underlined. If `place` is `None`, returns `file: message`.
 ///
 /// # Errors
 ///
@@ -150,7 +150,8 @@ pub fn lines(
     }
 }
 
-/// Returns `file:line:column: message`, with the line and column of `place`, and then the underlined line.
+/// Returns `file:line:column: message` for the byte range `place` of `source`, and then the source line with
+/// `place` underlined.
 fn positioned_lines(
     alloc: Global,
     file: &str,

@@ -56,8 +56,8 @@ enum Values {
 }
 
 /// Returns a new token for a string that changes, or `None` if no token is found that is read as the new
-/// value. Placeholders are first looked for with backslashes as escapes. If their values aren't found,
-/// backslashes are plain bytes, as in other tools' texts.
+/// value. Placeholders are first looked for with backslashes as escapes. If the placeholders' values aren't
+/// found, the search is repeated with backslashes as plain bytes, as in other tools' texts.
 ///
 /// # Errors
 ///
@@ -121,7 +121,8 @@ fn token_of<S: StringFormat, F: Fill>(
     {
         return Ok(Some(new));
     }
-    // A reader may drop a line end right after the opening quotes, so another one is added before the value.
+    // A reader may drop a line end right after the opening quotes. This attempt adds another one before the
+    // first value.
     if let Some(new) = spliced(alloc, change, spans, values, true, format)?
         && format.spells(alloc, new.as_str(), change.value)?
     {
@@ -261,7 +262,7 @@ struct Value<'s> {
     begins_line: bool,
 }
 
-/// The rest of a string, and of the content of its token, after the last placeholder so far.
+/// The rest of a string, and of the content of its token, after the placeholders already replaced.
 #[derive(Clone, Copy)]
 struct Rest<'s> {
     text: &'s str,
@@ -269,8 +270,8 @@ struct Rest<'s> {
 }
 
 /// Returns the old token with each placeholder replaced by its value. Returns `None` if the token's kind
-/// can't spell a value, or if a piece of the token isn't read as its part of the string. If `begins_line`, a
-/// line end precedes the first value.
+/// can't spell a value, or a piece of the token isn't read as its part of the string. If
+/// `begins_line`, a line end precedes the first value.
 ///
 /// # Errors
 ///

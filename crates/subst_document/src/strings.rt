@@ -65,10 +65,10 @@ pub struct ChangedValues {
     pub list: Vec<ValueAt>,
 }
 
-/// A changed string of a text.
+/// The index of a changed string, and the length of its new value.
 #[derive(Clone, Copy, Debug)]
 pub struct ValueAt {
-    /// The index of the string among those of the text, from 0.
+    /// The index of the string among the strings of the document, from 0.
     pub index: usize,
     /// The length of the string's new value in bytes.
     pub len: usize,

@@ -14,7 +14,7 @@ use std::fmt::Write;
 use std::ops::Range;
 use unicode_width::UnicodeWidthStr;
 
-/// The widest excerpt, in columns. Wider lines aren't shown.
+/// The width of the widest line that is shown, in columns.
 const WIDEST: usize = 60;
 
 /// A line in which a range is underlined. It displays as two indented lines.
@@ -107,7 +107,7 @@ impl Error {
 }
 
 /// Returns the line of `source` in which `range` begins, with the range underlined as by
-/// [`Error::source_highlighting`]. The text is empty if the line is wider than 60 columns.
+/// [`Error::source_highlighting`]. The result is empty if the line is wider than 60 columns.
 ///
 /// Both ends of the range must be character boundaries of `source`.
 ///

@@ -1,4 +1,4 @@
-//! Laws of errors: what `==` and `clone` preserve. Each is the contract of an empty function.
+//! Laws of `==` and `clone` on errors. Each law is the contract of an empty function.
 
 ghost use Rattle.std.specs.Prelude.{◌≡◌, ◌≢◌, ◌↔◌, IsTrue, None, false};
 ghost use Rattle.subst_error.specs.ErrorFault.{error_fault, expand_fault, expand_into_fault};
@@ -27,8 +27,8 @@ use crate::{
     SubstituteIntoError, UnexpectedCharacter,
 };
 
-/// The law of clones. A clone states the same fault as the error. If the error is out of memory, so is its
-/// clone.
+/// The law of clones. A clone states the same fault as the error. If the error states that memory ran out, so
+/// does its clone.
 pub fn clones_state_equal_faults()
     ensures error { (e copy : Error) → ⟦<Error as Clone>⟧.is_clone e copy
         → error_fault copy ≡ error_fault e }
@@ -74,8 +74,9 @@ pub fn clones_without_a_name_never_fail()
         → ⟦<SubstituteIntoError<'static> as Clone>⟧.is_infallible e }
 {}
 
-/// The law of equality. Errors are equal if and only if they state equal faults, or both are out of memory. A
-/// `SubstituteIntoError` of parsing never equals one of expansion, even if both are out of memory.
+/// The law of equality. Errors are equal if and only if they state equal faults, or both state that memory
+/// ran out. A `SubstituteIntoError` of parsing never equals one of expansion, even if both state that memory
+/// ran out.
 pub fn equal_errors_state_equal_faults()
     ensures error { (a b : Error) → IsTrue (⟦<Error as PartialEq>⟧.eq a b)
         ↔ (error_fault a ≡ error_fault b) }

@@ -61,7 +61,7 @@ impl ExpandIntoError<'_> {
 }
 
 impl SubstituteIntoError<'_> {
-    /// Returns the error's range in the source, as [`Error::source_range`] does, without allocating.
+    /// Returns the error's range in the source, as [`Error::source_range`] does. Never allocates.
     ///
     /// The end of the range must fit in a `usize`, as it does for every returned error.
     pub fn source_range(&self) -> Range<usize>

@@ -18,9 +18,9 @@ use Rattle.subst_language.specs.declared.part.Part.{Part}
 use Rattle.subst_language.specs.declared.part.Part.TheVariants.{Default}
 
 -- The ghost members of the reader, the map and the output of an expansion. The reader's `read` maps a value
--- to its bytes, and its `is_read` holds of all bytes that are read. The map's `see` and `look_up` define,
--- with `read`, the look-up from names to bytes. The output's `holds` relates an output, its first state and
--- its bytes. Its `len` and `capacity` are in bytes.
+-- to its bytes, and its `is_read` holds of the bytes of each value that is read. The map's `see` and
+-- `look_up` define, with `read`, the look-up from names to bytes. The output's `holds` relates an output, its
+-- first state and its bytes. The output's `len` and `capacity` are in bytes.
 pub record Context (V Seen W First : Type 0) : Type 1 where
   pub read : V → List ℕ
   pub is_read : List ℕ → Type 0

@@ -12,7 +12,8 @@ use Rattle.subst_language.specs.declared.part.Part.TheVariants.{Default}
 use Rattle.subst_expand.specs.declared.writer.State.{State}
 use Rattle.subst_expand.specs.declared.writer.State.TheVariants.{Writing, Jumping, Stopped}
 
--- if an expansion skips parts after `part`, the index at which it continues isn't 0, and is at most `end`
+-- if `part` is a default whose name has a value, the expansion continues after it at an index above 0 and at
+-- most `end`
 abbrev pub HasJump : {Seen : Type 0} → (List ℕ → Option Seen) → List ℕ → ℕ → Part → Type 0
 HasJump look_up s end part = IfSome (jump_of look_up s part) (λ next. (0 < next) × (next ≤ end))
 
@@ -54,15 +55,15 @@ pub record AppendsParts {V Seen W First : Type 0} (context : Context V Seen W Fi
       turns_after ≤ turns_before + length (visited_parts parts 0 0 s look))
   pub grown : turns_before ≤ turns_after
 
--- all visited parts were written to an output with the states `first` and `now`, and every skipped default is
--- closed
+-- all visited parts were written to an output with the states `first` and `now`. Every default whose name has
+-- a value is closed: its `next` is above 0 and at most the number of parts
 pub record IsWriting {V Seen W First : Type 0} (context : Context V Seen W First) (s : List ℕ) (first now : W)
     (parts : List Part) : Type 0 where
   pub settled : AllHaveJumps context.look_up s (length parts) parts
   pub written : WritesParts context s parts first now
 
--- The part at `index` is an open default whose name has a value. This part and those before it were written.
--- The parts after it belong to the default, and were skipped.
+-- The part at `index` is an open default whose name has a value. This part and the visited parts before it
+-- were written. The parts after it belong to the default, and were skipped.
 pub record IsJumping {V Seen W First : Type 0} (context : Context V Seen W First) (s : List ℕ) (index : ℕ)
     (first now : W) (parts : List Part) : Type 0 where
   pub before : List Part
@@ -75,7 +76,7 @@ pub record IsJumping {V Seen W First : Type 0} (context : Context V Seen W First
   pub found : context.look_up (span_bytes name s) ≡ Some value
   pub written : WritesParts context s (before ++ Default name 0 ∷ []) first now
 
--- writing stopped at one of the parts, for the reason `stopped`; the parts before it were written
+-- writing stopped at one of the parts, for the reason `stopped`; the visited parts before it were written
 pub record HasStopped {V Seen W First : Type 0} (context : Context V Seen W First) (s : List ℕ)
     (stopped : Stop) (first now : W) (parts : List Part) : Type 0 where
   pub done : List Part

@@ -219,8 +219,9 @@ where
     outcome
 }
 
-/// Appends the output of the parts of a list, as `append` does. Doesn't call `append_part`: each arm of its
-/// `match` advances the index itself, which takes fewer instructions than a test of the call's result.
+/// Appends the output of the parts of a list, as `append` does. The loop doesn't call `append_part`: each arm
+/// of the `match` here advances the index itself. This takes fewer instructions than a test of the call's
+/// result.
 #[inline(always)]
 fn append_list<'a, M: VariableMap<'a>, R: ReadValue<M::Value>, O: Offset, W: Output>(
     source: &[u8],

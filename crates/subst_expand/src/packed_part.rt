@@ -1,5 +1,5 @@
-//! Packed parts: 16 bytes with offsets and indexes of 32 bits, or 32 bytes with those of 64 bits. Contracts
-//! state the part that a packed part unpacks to.
+//! Packed parts, which take 16 bytes each with 32-bit offsets and indexes, or 32 bytes each with 64-bit ones.
+//! Contracts state the part that a packed part unpacks to.
 
 ghost use Rattle.std.specs.Prelude.{◌≡◌, ◌<◌, ◌^◌, ℕ};
 ghost use Rattle.subst_expand.specs.Packed.{same_number, unpacked};

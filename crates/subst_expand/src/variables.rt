@@ -85,8 +85,8 @@ fn variable_at(source: &[u8], part: Part) -> Option<Variable<'_>>
     })
 }
 
-/// Returns `Optional` if `text` begins with a question mark, or else `WithDefault`. The text is the source
-/// after a variable's name.
+/// Returns the kind of a variable that isn't required: `Optional` if `text` begins with a question mark, or
+/// else `WithDefault`. `text` is the source after the variable's name.
 fn kind_before(text: &[u8]) -> VariableKind
     ensures { kind_of result ≡ parts.kind_before text.now }
 {

@@ -80,7 +80,8 @@ fn end_text(alloc: Global, status: u8, output: &[u8], errors: &[u8]) -> Result<S
     format!(in alloc; "{status}|{output}|{errors}")
 }
 
-/// Runs the program with the arguments and over the source of each row, and expects the end in the row.
+/// Runs the program over the source of each row, with the row's arguments, and expects the end that the row
+/// states.
 fn expect_ends(alloc: Global, rows: &[(&[&str], &[u8], &str)]) -> Result<(), Fail> {
     for &(line, source, expected) in rows {
         Program::new(line, source).expect(alloc, expected)?;

@@ -113,7 +113,7 @@ pub fn expect_runs(alloc: Global, call: Call, rows: &[(&str, &str, &str)]) -> Re
     Ok(())
 }
 
-/// Runs `run_text` without variables over the text of each row, and expects each run to end as its row
+/// Runs `run_text` without variables over the source of each row, and expects each run to end as its row
 /// describes.
 pub fn expect_texts(alloc: Global, rows: &[(&str, &str)]) -> Result<(), Fail> {
     for &(source, expected) in rows {

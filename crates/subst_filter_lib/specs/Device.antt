@@ -1,4 +1,4 @@
--- The bytes read from an input and written to an output, if they are known.
+-- The bytes read from an input, and those written to an output, if they are known.
 use Rattle.std.specs.Prelude.{◌≡◌, ℕ, List, [], take, Option, Some, IfSome}
 use Rattle.std.specs.Io.KnownBytes.{Appends}
 

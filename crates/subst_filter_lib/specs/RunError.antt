@@ -53,7 +53,8 @@ error_status Read = DEVICE_FAILED
 error_status Write = DEVICE_FAILED
 error_status OutOfMemory = OUT_OF_MEMORY
 
--- the message of an error, if it is known; for `Subst`, the message of the library's error that it holds
+-- the message of an error. For `Subst`, it is the message of the library's error, or `None` if that message
+-- quotes a character that isn't ASCII
 abbrev pub display_of_run : RunError → Option (List ℕ)
 display_of_run Read = Some (codes "read failed")
 display_of_run Write = Some (codes "write failed")

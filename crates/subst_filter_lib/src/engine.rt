@@ -26,7 +26,7 @@ const FIRST_CHUNK: usize = 4096;
 /// The length in bytes of the buffer once a read has filled the first one: the capacity of a pipe.
 const CHUNK: usize = 65536;
 
-/// Reads the input to its end, and returns the bytes that were left.
+/// Reads the input to its end, and returns the bytes read.
 ///
 /// # Errors
 ///

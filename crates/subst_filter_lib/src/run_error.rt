@@ -16,8 +16,9 @@ pub enum RunError {
     Write,
     /// The source isn't UTF-8, in a run over text.
     NotUtf8,
-    /// The source is refused with this error. The text is the highlighting of the fault: the line of the
-    /// source, and carets below it. The text is empty if the line is too wide, or if the run is over bytes.
+    /// The source is refused with this error. The `String` is the highlighting of the fault: the source line
+    /// in which the fault begins, and carets below it. The `String` is empty if that line is too wide, or in
+    /// a run over bytes.
     Subst(Error, String),
     /// Memory ran out.
     OutOfMemory,
@@ -39,7 +40,7 @@ impl RunError {
     }
 }
 
-/// Writes the message, one line without a line end. For a refused source, the message is that of the
+/// Writes the message, without a line end after it. For a refused source, the message is that of the
 /// library's error, without the highlighting.
 impl fmt::Display for RunError {
     ghost use Rattle.std.specs.Fmt.{DisplaysOnOk};

@@ -77,7 +77,7 @@ fn insert_if_new<'w>(
     Ok(())
 }
 
-/// Splits an argument of the form NAME=VALUE at its first `=`, or returns `None` if it has no `=`.
+/// Splits an argument at its first `=` into a name and a value, or returns `None` if it has no `=`.
 fn pair(argument: &str) -> Option<(&str, &str)>
     ensures form { is_some result ≡ is_pair argument.now }
     ensures parts { IfSome result (λ p. (p.0.now ≡ name_in argument.now)

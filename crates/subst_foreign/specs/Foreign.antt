@@ -1,4 +1,4 @@
--- Definitions shared by the texts of other tools: their values, and the names that are chosen.
+-- Definitions for texts of other tools: the value of a text, and the names that are chosen.
 use Rattle.std.specs.Prelude.{◌≡◌, ◌++◌, ℕ, Bool, true, false, zero, suc, List, Option, Some, None, Result, Ok, Err, IsTrue, is_some}
 use Rattle.std.specs.Borrow.{Bor}
 use Rattle.std.specs.List.{Any}

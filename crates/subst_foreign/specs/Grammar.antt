@@ -1,4 +1,4 @@
--- The beginnings of variables in a text of another tool, and its refused forms.
+-- The beginnings of variables, and the refused forms, in a text of another tool.
 use Rattle.std.specs.Prelude.{◌≡◌, ◌≢◌, ◌⊎◌, ℕ, Bool, true, false, suc, List, [], ◌∷◌, ◌++◌, codes, IsTrue}
 use Rattle.std.specs.List.{AllByRecursion}
 use Rattle.subst_foreign.specs.Foreign.{IsShellName}
@@ -62,7 +62,7 @@ operator_text operator.ColonPlus = colon ∷ plus ∷ []
 operator_text operator.Question = question_mark ∷ []
 operator_text operator.ColonQuestion = colon ∷ question_mark ∷ []
 
--- whether texts of these forms have the operator
+-- whether the operator belongs to these forms
 abbrev pub has_operator : Forms → Operator → Bool
 has_operator of.Own operator.Default = true
 has_operator of.Own _ = false
@@ -84,8 +84,8 @@ abbrev pub BeginsWithNone : List ℕ → List ℕ → Type 0
 BeginsWithNone bytes [] = Unit {0}
 BeginsWithNone bytes (b ∷ s) = AllByRecursion (λ other. b ≢ other) bytes
 
--- the text x may follow the operator; after `:`, the operator of the forms `Own`, x doesn't begin with `-`,
--- `=`, `?` or `+`
+-- the operator allows the text x after it; `:`, the operator of the forms `Own`, allows no text that begins
+-- with `-`, `=`, `?` or `+`
 abbrev pub IsStart : Operator → List ℕ → Type 0
 IsStart operator.Default x = BeginsWithNone (codes "-=?+") x
 IsStart _ x = Unit {0}
@@ -134,7 +134,7 @@ pub data ClosesBraces : ℕ → List ℕ → Type 0 where
   opening : {d : ℕ} {m : List ℕ} → ClosesBraces (suc d) m → ClosesBraces d (opening_brace ∷ m)
   closing : {d : ℕ} {m : List ℕ} → ClosesBraces d m → ClosesBraces (suc d) (closing_brace ∷ m)
 
--- the bytes are a message: in a shell's forms its braces match, and in others it has none
+-- the bytes are a message: its braces match in a shell's forms, and it has no braces in other forms
 abbrev pub IsMessage : Forms → List ℕ → Type 0
 IsMessage of.Shell m = ClosesBraces 0 m
 IsMessage _ m = AllByRecursion IsNoBrace m
@@ -143,13 +143,13 @@ IsMessage _ m = AllByRecursion IsNoBrace m
 abbrev pub ClosesMessage : Forms → List ℕ → Type 0
 ClosesMessage forms x = (m y : List ℕ) × IsMessage forms m × (x ≡ m ++ closing_brace ∷ y)
 
--- no brace closes a message at the start of the text x; in any but a shell's forms, x has no brace at all
+-- no brace closes a message at the start of the text x; in forms other than a shell's, x has no brace at all
 abbrev pub NeverCloses : Forms → List ℕ → Type 0
 NeverCloses of.Shell x = ¬ (ClosesMessage of.Shell x)
 NeverCloses _ x = AllByRecursion IsNoBrace x
 
--- a dollar before this byte may begin a form: the byte is a dollar, an opening brace, or the first byte of a
--- shell's name
+-- a dollar before this byte can begin a form: the byte is a dollar, an opening brace, or a name byte that
+-- isn't a digit
 abbrev pub FollowsDollar : ℕ → Type 0
 FollowsDollar b = (b ≡ dollar) ⊎ (b ≡ opening_brace) ⊎ (IsName (b ∷ []) × IsShellName (b ∷ []))
 
@@ -190,15 +190,18 @@ abbrev pub OpensMessage : Grammar → (List ℕ → Type 0) → List ℕ → Typ
 OpensMessage g P s = (n : List ℕ) × (op : Operator) × (x : List ℕ) × IsTrue (takes_message op)
     × IsHead g (Opened n op) x × (s ≡ head_text (Opened n op) ++ x) × P x
 
--- `is_whole` holds, and the text s begins with `${`, a name, and a text that has the refused form.
+-- `is_whole` holds, and the text s begins with `${` and a name that doesn't begin with a digit. The text
+-- after the name has the refused form, and begins neither with a closing brace nor with an operator of the
+-- grammar.
 abbrev pub GoesOn : Grammar → ShellForm → List ℕ → Type 0
 GoesOn g form s = IsTrue (is_whole g.forms g.all) × ((n x : List ℕ) × IsName n × IsShellName n
     × (s ≡ in_braces n x) × BeginsWithNo IsNameByte x × IsOtherEnd g.forms x × HasForm form x)
 
--- The text, in a default or not, begins with this refused form. A message that never closes is refused in any
--- forms, and an opening brace in a default is refused in all but a shell's forms. If `is_whole` holds, `${`
--- is refused unless it is followed by a name and then by a closing brace or an operator. Common forms also
--- refuse a dollar that begins nothing, and an opening brace in a message.
+-- The text begins with this refused form; `inside` is whether the text is in a default. A message that never
+-- closes is refused in all forms. An opening brace in a default is refused in all forms but a shell's. If
+-- `is_whole` holds, `${` is refused unless it is followed by a name and then by a closing brace or an
+-- operator. In common forms, a dollar that can begin no form is refused, and so is an opening brace in a
+-- message.
 abbrev pub IsRefused : Grammar → (inside : Bool) → ShellForm → List ℕ → Type 0
 IsRefused g inside form.Brace s =
     IsTrue inside × (g.forms ≢ of.Shell) × ((x : List ℕ) × (s ≡ opening_brace ∷ x))

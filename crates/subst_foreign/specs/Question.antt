@@ -1,5 +1,5 @@
--- Look-ups of names that begin with a digit, which no name in a shell does: the digit is a question about the
--- variable whose name follows it.
+-- Look-ups of names that are questions. A name that begins with the digit 1, 2 or 3 is a question about the
+-- variable whose name follows the digit. No name in a shell begins with a digit.
 use Rattle.std.specs.Prelude.{◌==◌, if◌then◌else◌, ℕ, List, [], ◌∷◌, Option, Some, None}
 use Rattle.subst_language.specs.Language.LookUp.{LookUp}
 use Rattle.subst_language.specs.Maps.{without_empty}

@@ -23,7 +23,7 @@ use Rattle.subst_language.specs.Language.Bytes.{dollar, colon, backslash, openin
 use Rattle.subst_language.specs.Language.Name.{IsName, IsNameByte, BeginsWithNo}
 use Rattle.subst_language.specs.Language.Tree.{item_text}
 
--- the grammar of a style with this choice of names
+-- the grammar of a style; `all` and `Has` map `style.names` to the choice of names
 abbrev pub grammar_of : {N : Type 0} → (N → Bool) → (N → Bool → List ℕ → Type 0) → Style N → Grammar
 grammar_of all Has style = grammar style.forms (all style.names.now) (Has style.names.now)
 
@@ -87,8 +87,8 @@ abbrev pub refused_at : ℕ → Token → List FormAt
 refused_at position (Refused form front) = record { position = position; form = form } ∷ []
 refused_at position _ = []
 
--- the position of the outermost open variable after a token at `position`: `position` if the depth before the
--- token is 0, and otherwise still `outermost`
+-- the position of the outermost variable that is open after a token at `position`: `position` if the depth
+-- before the token is 0, and otherwise still `outermost`
 abbrev pub outermost_at : (depth outermost position : ℕ) → ℕ
 outermost_at zero outermost position = position
 outermost_at (suc depth) outermost position = outermost
@@ -179,8 +179,8 @@ IsInner forms b seen.Closing = b ≡ closing_brace
 IsInner forms b (seen.Refused f) = (b ≡ opening_brace) × (forms ≢ of.Shell) × (f ≡ form.Brace)
 IsInner forms b _ = ⊥
 
--- The token of a dollar that begins nothing, before the name bytes n. In common forms it is refused, unless n
--- is a name that doesn't begin with a digit.
+-- The token of a dollar that begins no variable. The name bytes n follow the dollar. In common forms the
+-- dollar is refused, unless n is a name that doesn't begin with a digit.
 abbrev pub IsLone : Forms → List ℕ → SeenToken → Type 0
 IsLone forms n (seen.Byte b) = (b ≡ dollar) × (forms ≡ of.Common → IsName n × IsShellName n)
 IsLone forms n (seen.Refused f) = (forms ≡ of.Common) × (f ≡ form.Dollar) × (¬ (IsName n × IsShellName n))

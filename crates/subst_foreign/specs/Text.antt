@@ -20,7 +20,7 @@ mutual
     Byte : ℕ → Item
     -- a whole head: two dollars, or a variable without an operator
     Whole : Head → Item
-    -- a variable with an operator and the text after it
+    -- a variable with an operator and the text after the operator
     Operated : (name : List ℕ) → Operator → Text → Item
     -- a variable with an operator and its message
     Required : (name : List ℕ) → Operator → (message : List ℕ) → Item
@@ -42,7 +42,7 @@ abbrev mutual
   item_spelling (Required n op m) = head_text (Opened n op) ++ (m ++ closing_brace ∷ [])
   item_spelling (Group t) = opening_brace ∷ spelling t ++ closing_brace ∷ []
 
-  -- the spelling of a text: those of its items, concatenated
+  -- the spelling of a text: the spellings of its items, concatenated
   pub spelling : Text → List ℕ
   spelling Empty = []
   spelling (Then item rest) = item_spelling item ++ spelling rest
@@ -54,7 +54,7 @@ pub record IsByte (g : Grammar) (inside : Bool) (b : ℕ) (x : List ℕ) : Type 
   pub taken : (form : ShellForm) → ¬ (IsRefused g inside form (b ∷ x))
   pub no_brace : IsTrue inside → IsNoBrace b
 
--- the head is complete: no text or message follows it
+-- the head is complete: it doesn't end in an operator, so it needs no text or message
 abbrev pub IsWhole : Head → Type 0
 IsWhole (Opened n op) = ⊥
 IsWhole head = Unit {0}
@@ -122,7 +122,7 @@ abbrev mutual
   item_value forms unset (Group t) look =
       and_then (Ok (opening_brace ∷ [])) (and_then (text_value forms unset t look) (Ok (closing_brace ∷ [])))
 
-  -- the value of a text: those of its items, concatenated, or the first missing name from the left
+  -- the value of a text: the values of its items, concatenated, or the first missing name from the left
   pub text_value : Forms → Missing → Text → LookUp → Given
   text_value forms unset Empty look = Ok []
   text_value forms unset (Then item rest) look =

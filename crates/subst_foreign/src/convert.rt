@@ -63,8 +63,8 @@ pub(crate) fn convert<N: Names>(
     Ok(Converted { template, refused })
 }
 
-/// Returns the offset of the outermost open variable after a token at `position`. The offset is `position` if
-/// `depth`, the depth before the token, is 0, and otherwise still `outermost`.
+/// Returns the offset of the outermost variable that is open once the token at `position` is read. `depth` is
+/// the depth before the token. If `depth` is 0, the offset is `position`; otherwise it is still `outermost`.
 fn outermost_at(depth: usize, outermost: usize, position: usize) -> usize
     ensures { result ≡ spec_outermost depth outermost position }
 {
@@ -253,6 +253,6 @@ pub(crate) fn text_of(bytes: Vec<u8>) -> String
     requires { IsUtf8 bytes.items }
     ensures { string_bytes result ≡ bytes.items }
 {
-    // SAFETY: they are UTF-8.
+    // SAFETY: the bytes are UTF-8.
     unsafe { String::from_utf8_unchecked(bytes) }
 }

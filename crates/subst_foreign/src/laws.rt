@@ -23,7 +23,8 @@ use std::convert::{AsSlice, AsStr};
 use subst_language::{BytesMap, OneOf, VariableMap};
 
 /// The law of one reading. Each text has one list of refused forms. If the list is empty, exactly one list of
-/// items of the grammar spells the text. In a text that such a list spells, nothing is refused.
+/// items of the grammar spells the text. If items of the grammar spell a text, nothing in that text is
+/// refused.
 pub fn one_reading<N: Names>(style: Style<'_, N>)
     ensures one_list { let g = grammar_of N.all N.counts style.entry in
         (s : List ℕ) (one other : List SpecFormAt) → IsReading g s one → IsReading g s other
@@ -42,8 +43,8 @@ pub fn one_reading<N: Names>(style: Style<'_, N>)
 {}
 
 /// The law of listed variables. Each text has one list of variables. If items of the grammar spell the text,
-/// the list has their variables, in order. A template looks up each variable by its name, before which there
-/// may be a digit that a `ShellMap` reads. Listed variables and refused forms lie within the text.
+/// the list has their variables, in order. A template looks up each variable by its name. A digit that a
+/// `ShellMap` reads may precede this name. Listed variables and refused forms lie within the text.
 pub fn one_listing<N: Names>(style: Style<'_, N>)
     ensures one_list { let g = grammar_of N.all N.counts style.entry in
         (s : List ℕ) (one other : List VariableAt) → Listing g 0 0 s one → Listing g 0 0 s other
@@ -89,7 +90,7 @@ where
 {}
 
 /// The law of a `ShellMap` over a map of texts. For each name, the `ShellMap` has the text that `by_question`
-/// computes from the values in the underlying map. The text and the bytes of each value must be equal.
+/// computes from the values in the underlying map. This holds if each value's text and bytes are equal.
 pub fn questions_are_answered_by_texts<'a, M: BytesMap<'a> + 'a>()
 where
     M::Value: AsSlice<u8> + AsStr + Drop,

@@ -1,5 +1,5 @@
-//! Templates for texts written for other tools: some forms of chosen names are variables, and all else is
-//! literal text.
+//! Templates for texts written for other tools. Chosen names in certain forms, such as `$NAME`, are
+//! variables; all else is literal text or is refused.
 #![tactic(auto)]
 
 ghost use Rattle.std.specs.Prelude.{false, string_bytes, true, IfOk};

@@ -1,4 +1,4 @@
-//! Refused forms and errors of texts.
+//! Refused forms, and the error of a conversion into a template.
 
 ghost use Rattle.std.specs.Prelude.{◌≡◌, Some};
 ghost use Rattle.subst_foreign.specs.declared.refused.TextError.TheVariants as refusing;
@@ -7,7 +7,7 @@ ghost use Rattle.subst_foreign.specs.RefusedDisplay.{display_of_error, display_o
 use std::alloc::AllocError;
 use std::fmt;
 
-/// A form that no template can spell.
+/// A form that is refused in texts of some styles.
 #[derive(Clone, Copy, Debug, PartialEq, Eq)]
 pub enum ShellForm {
     /// A dollar that no name, dollar or opening brace follows, as in `$1`, `$@`, `$(command)` or `5 $`.
@@ -34,7 +34,7 @@ pub enum ShellForm {
     Percent,
     /// `${NAME/pattern/other}`.
     Slash,
-    /// Anything else after a name in braces.
+    /// `${NAME` followed by anything else, as in `${NAME^^}`.
     Other,
     /// An opening brace in the message of `${NAME:?message}`.
     Message,

@@ -15,8 +15,8 @@ use crate::names::Names;
 use crate::refused::{FormAt, TextError};
 use std::alloc::{AllocError, Global};
 
-/// The style of a text: the forms and names of its variables, and how an unset variable expands. All other
-/// text is literal, or refused, or `$$` for a dollar.
+/// The style of a text: the forms and names of its variables, and how an unset variable expands. Some styles
+/// read `$$` as a dollar. All other text is literal or refused.
 #[derive_where(Clone, Copy)]
 pub struct Style<'n, N> {
     /// The forms of variables.

@@ -45,8 +45,8 @@ pub(crate) enum Token<'t> {
 /// A token, and the text after it.
 pub(crate) type Step<'t> = (Token<'t>, &'t [u8]);
 
-/// The end of a variable in braces, which begins right after the name. Every end but `Other` has the text
-/// after it.
+/// The end of a variable in braces: the part right after the variable's name. Every variant but `Other` has
+/// the text after this part.
 #[derive(Clone, Copy)]
 enum End<'t> {
     /// The closing brace.
@@ -132,7 +132,8 @@ fn lone_dollar<'t>(name: &[u8], forms: Forms) -> Token<'t>
     }
 }
 
-/// Returns the token that begins with `${`. `text` follows the dollar, and `braced` follows the brace.
+/// Returns the token at `${`, and the text after the token. `text` follows the dollar, and `braced` follows
+/// the brace.
 fn braced_step<'t, N: Names>(text: &'t [u8], braced: &'t [u8], style: Style<'_, N>) -> Step<'t>
     requires { text.now ≡ opening_brace ∷ braced.now }
     ensures { (depth : ℕ) → IsStep (grammar_of N.all N.counts style.entry) depth (dollar ∷ text.now)
@@ -146,8 +147,8 @@ fn braced_step<'t, N: Names>(text: &'t [u8], braced: &'t [u8], style: Style<'_, 
     }
 }
 
-/// Returns the token that begins with `${`, `name` and `end`, and the text after the token. Returns `None` if
-/// no variable begins with these three. `after` follows `name` and begins with `end`.
+/// Returns the token that begins with `${`, and the text after the token, if `${`, `name` and `end` begin a
+/// variable. Otherwise returns `None`. `after` follows `name` and begins with `end`.
 fn head_step<'t, N: Names>(
     name: &'t [u8],
     after: &'t [u8],
@@ -174,7 +175,7 @@ fn head_step<'t, N: Names>(
 }
 
 /// Returns the token of a `${` that begins no variable, and the text after the token. `text` follows the
-/// dollar. It consists of a brace, `name` and `after`; `name` may be empty. `is_other` is whether `end_at`
+/// dollar and consists of a brace, `name` and `after`; `name` may be empty. `is_other` is whether `end_at`
 /// returns `End::Other` for `after`.
 fn lone_brace_step<'t, N: Names>(
     text: &'t [u8],
@@ -204,8 +205,8 @@ fn lone_brace_step<'t, N: Names>(
     }
 }
 
-/// Returns the token of a name in braces with an operator. `after` follows `name`, and `rest` follows the
-/// operator.
+/// Returns the token of a name in braces with an operator, and the text after the token. `after` follows
+/// `name`, and `rest` follows the operator.
 fn operated_step<'t, N: Names>(
     name: &'t [u8],
     operator: Operator,

@@ -37,8 +37,8 @@ is_plain b = nat_le 32 b && not (b == 34) && not (b == 92)
 abbrev pub IsPartOf : List ℕ → List ℕ → List ℕ → Type 0
 IsPartOf token piece part = IsTokenOf (34 ∷ piece ++ 34 ∷ []) part
 
--- The output is the source with its string values filled in directly in the text, in order. Every value fits
--- into a token, with escapes.
+-- The output is the source with its string values filled in directly in the text, in order. A string's token
+-- can spell every new value, with escapes.
 abbrev pub IsFilledJson : (List ℕ → List ℕ → Type 0) → List ℕ → List ℕ → Type 0
 IsFilledJson Becomes source output =
     IsFilledText IsStringToken IsPartOf (λ _ _. Unit {0}) Becomes (strings_in (tokens source)) source output

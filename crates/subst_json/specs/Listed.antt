@@ -52,7 +52,7 @@ located_in path (t ∷ ts) = located_at path t ++ located_in (past_token t path)
 abbrev pub RefusalAt : Type 0
 RefusalAt = found.RefusalAt Path
 
--- a refusal of the code, converted to the `Refusal` of the definitions
+-- a `RefusalAt` of the code, converted to a `Refusal` of the definitions
 abbrev pub refusal_at : RefusalAt → Refusal
 refusal_at = refused.refusal_at steps_of
 
@@ -83,7 +83,7 @@ AreExact source list =
 pub record IsListing (source : List ℕ) (list : List StringAt) : Type 0 where
   pub all : map text_at list ≡ strings_in (tokens source)
   pub spelled : AreSpelled IsStringToken source 0 list
-  -- no span is that of anything else, such as a key
+  -- each span is that of a string, never that of a key or another token
   pub exact : AreExact source list
 
 -- the path leads to the string with this index

@@ -23,8 +23,8 @@ abbrev mutual
   strings_of_members no_members = []
   strings_of_members (member key d ms) = strings d ++ strings_of_members ms
 
--- The second tree is the first one with its strings filled in. Numbers are equal, no matter how they are
--- printed.
+-- The second tree is the first one with its strings filled in. Each number equals its counterpart, but the
+-- two may be printed differently.
 abbrev mutual
   pub IsEach : (List ℕ → List ℕ → Type 0) → Data → Data → Type 0
   IsEach Becomes (string s) (string x) = Becomes s x

@@ -33,7 +33,6 @@ abbrev pub AreExpected : List Expected → List Token → Type 0
 AreExpected [] ts = ts ≡ []
 AreExpected (first ∷ more) ts = BeginsWith first (length more) (AreExpected more) ts
 
--- all expected parts: the next one, and then those that follow the open arrays and objects, from the inside
--- out
+-- all expected parts: the next one, and then the part after each open array or object, the innermost first
 abbrev pub expected : Nesting → List Expected
 expected nesting = nesting.next ∷ reverse nesting.outer.items

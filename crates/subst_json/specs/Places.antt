@@ -1,4 +1,4 @@
--- Spans in the text of a tree.
+-- The span in a JSON text that spells a range of a string.
 use Rattle.std.specs.Prelude.{◌≡◌, ◌≤◌, ◌-◌, ℕ, List, [], ◌∷◌, ◌++◌, length, take, slice_index, slice_range, Some}
 use Rattle.std.specs.declared.ops.Range.{Range}
 use Rattle.serde_json.specs.Data.{string}

@@ -1,4 +1,4 @@
--- The text of a path, a JSON Pointer (RFC 6901).
+-- The text of a path: a JSON Pointer (RFC 6901).
 use Rattle.std.specs.Prelude.{ℕ, ◌<◌, ◌^◌, ◌==◌, ⊤, List, [], ◌∷◌, ◌++◌, codes, if◌then◌else◌}
 use Rattle.std.specs.Fmt.{decimal}
 use Rattle.std.specs.List.{flat_map}

@@ -20,8 +20,9 @@ use std::alloc::{AllocError, Global};
 use subst_document::{ChangedValues, Fill, ValueAt};
 
 /// Compares two texts token by token, and returns whether `output` is `source` with its strings filled in.
-/// The result is `false` if `source` isn't one value, or if its nesting or a number exceeds the limits of the
-/// reader of trees. `values` are the new values of the strings that change, so `filler` isn't called again.
+/// The result is `false` if `source` isn't one JSON value, or if its nesting or a number exceeds the limits
+/// of the reader of trees. `values` are the new values of the strings that change, so `filler` isn't called
+/// again.
 pub(crate) fn is_filled<F: Fill>(
     alloc: Global,
     source: &str,
@@ -62,9 +63,9 @@ pub(crate) fn is_filled<F: Fill>(
 struct RemainingStrings<'v> {
     /// The index of the next string.
     index: usize,
-    /// The strings that change.
+    /// The remaining strings that change.
     list: &'v [ValueAt],
-    /// The new values of the strings that change, concatenated.
+    /// The new values of the strings in `list`, concatenated.
     text: &'v str,
 }
 

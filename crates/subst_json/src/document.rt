@@ -161,7 +161,7 @@ fn unconfirmed(alloc: Global, source: &str) -> Result<Option<String>, Error>
     Ok(None)
 }
 
-/// Returns the final error after filling in `source` failed with `e`.
+/// Returns the final error, where `e` is the error of filling in `source`.
 ///
 /// # Errors
 ///

@@ -177,7 +177,7 @@ pub fn from_str<'a, T: FromTree, M: VariableMap<'a>>(
 where
     M::Value: AsStr + Drop,
 
-    // The result of the conversion for the tree with its strings filled in.
+    // The value into which the filled-in tree of the source is converted.
     ensures ok { ReadsType M.Value.text M.see (M.look_up variables.now) T.reads source.now result }
 
     // `Json` is either the reader's error for a text that isn't JSON, or the error of the conversion.

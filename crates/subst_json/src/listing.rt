@@ -20,8 +20,8 @@ use subst_language::VariableMap;
 pub type RefusalAt = subst_document::RefusalAt<Path>;
 
 /// Lists the string values of `source`, a JSON text, in document order. Keys aren't listed. If several
-/// members have the same key, the string of each is listed. Each span is read again before it is returned.
-/// The result is `None` if this check fails; no text is known for which the check fails.
+/// members have the same key, the string of each is listed. Each span is checked before it is returned, by
+/// reading it again. The result is `None` if this check fails; no text is known for which the check fails.
 ///
 /// # Errors
 ///
@@ -34,8 +34,8 @@ pub fn strings(alloc: Global, source: &str) -> Result<Option<Vec<StringAt>>, Err
 }
 
 /// Lists in document order the strings of `source`, a JSON text, that are refused when filled in from
-/// `variables`. The values of `variables` are texts. Each span is read again before it is returned. The
-/// result is `None` if this check fails; no text is known for which the check fails.
+/// `variables`. The values of `variables` are texts. Each span is checked before it is returned, by reading
+/// it again. The result is `None` if this check fails; no text is known for which the check fails.
 ///
 /// # Errors
 ///

@@ -1,5 +1,5 @@
--- Terms that public contracts use besides the terms of the language: look-ups of maps, and results as
--- answers.
+-- Terms of public contracts beyond those of the language: maps as look-ups, results as answers, variables in
+-- the code, and clauses that calls share.
 pub mod Clauses
 pub mod Outcome
 pub mod VariableMap

@@ -1,3 +1,4 @@
--- Terms of lemmas, here and in crates that depend on this one. No contract of a public function cites them.
+-- Definitions for lemmas of this crate and of crates that depend on it. No contract of a public function
+-- cites these definitions.
 pub mod Closing
 pub mod PlainEnds

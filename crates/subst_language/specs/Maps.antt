@@ -47,9 +47,9 @@ abbrev pub without_empty : LookUp → LookUp
 without_empty look name =
     option_and_then (λ bytes. (if length bytes == 0 then None else Some bytes)) (look name)
 
--- Some function `bytes` maps values, as contracts see them, to their bytes. For each value v, it maps `see
--- v`, which v is identified with, to `items v`, the bytes of v. For each map and name, it maps the result of
--- `look_up` to that of `look_up_bytes`.
+-- There is a function `bytes` from values, as contracts see them, to their bytes. For each value v, it maps
+-- `see v`, which v is identified with, to `items v`, the bytes of v. For each map and name, `look_up_bytes`
+-- has `bytes` of the value from `look_up`, or `None` if there is none.
 abbrev pub AreReadAs : {Map Value Seen : Type 0} → (Value → List ℕ) → (Value → Seen)
     → (Map → List ℕ → Option Seen) → (Map → LookUp) → Type 0
 AreReadAs {Map} {Value} {Seen} items see look_up look_up_bytes = (bytes : Seen → List ℕ)

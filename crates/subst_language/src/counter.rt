@@ -4,7 +4,7 @@ ghost use Rattle.std.specs.Prelude.{◌≡◌, ◌+◌, ℕ};
 
 use std::marker::Model;
 
-/// A number that only proofs read and only `add` changes. It takes no memory.
+/// A number that only proofs read. Only `add` changes it, and it takes no memory.
 #[derive(Drop)]
 pub struct Counter {
     ghost count: { ℕ },
@@ -18,7 +18,7 @@ impl Model for Counter {
 
     ghost view = { λ counter. counter.count };
 
-    // It owns no memory, which must be stated if a ghost field holds a number.
+    // A counter owns no memory. This has to be stated because its ghost field holds a number.
     ghost also_owns = { λ _. ftrue };
 }
 

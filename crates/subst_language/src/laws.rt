@@ -28,8 +28,8 @@ ghost use Rattle.subst_language.specs.Language.Written.{written};
 ghost use Rattle.subst_language.specs.Language.Counts.{part_count, visited_count};
 
 /// The law of one reading. Each byte string is a sentence of the template language or has a fault, never
-/// both. A sentence is the text of exactly one well-formed tree. Any other byte string has exactly one fault
-/// for each position in a source at which the byte string may begin.
+/// both. A sentence is the text of exactly one well-formed tree. Any other byte string has exactly one fault,
+/// wherever in a source it begins.
 pub fn law_1()
     ensures reading { (s : List ℕ) → OneTreeOrOneFault s }
 {}

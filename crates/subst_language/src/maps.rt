@@ -26,8 +26,8 @@ mod no_empty;
 /// function from the bytes of a name to what the name's value is identified with, or to `None`. Infinitely
 /// many names may have values. An implementation has three ghost members:
 ///
-/// - `Seen`: the type of what values are identified with. If the bytes of a value don't follow from what the
-///   value is identified with, contracts state no output under the map.
+/// - `Seen`: the type of the things that values are identified with. If the bytes of a value don't follow
+///   from what the value is identified with, contracts state no output under the map.
 /// - `see`: the function from a value to what it is identified with.
 /// - `look_up`: the look-up, as a function of the map and a name.
 pub trait VariableMap<'a> {

@@ -5,9 +5,9 @@ use subst::Error;
 use subst::error::{ExpandError, NoSuchVariable, ParseError};
 use subst_testing::answers::fault_text;
 
-/// Makes a call after a mark with `$name`, and repeats it if its result matches `$out_of_memory`. Prints the
-/// borrowed values before the call. Then prints the call's result, the borrowed values again, and an empty
-/// line.
+/// Makes the call `$call` between printed marks, and repeats it without marks if its result matches
+/// `$out_of_memory`. The first mark contains `$name`. Prints the borrowed values before each attempt. At the
+/// end, prints the last attempt's result, the borrowed values and an empty line.
 macro_rules! again {
     ($rt:ident, $name:expr, [$($borrowed:ident),*], $out_of_memory:pat => $call:expr) => {
         $($borrowed.show($rt, "borrowed");)*

@@ -119,8 +119,8 @@ fn clone(rt: &HostRuntime) -> Result<(), AllocError> {
     Ok(())
 }
 
-/// Converts a reader's error, a refusal and a failed allocation into `$format::Error`, and prints whether
-/// each has the right case.
+/// Converts a reader's error, a refusal and a failed allocation into `$format::Error`, and prints whether all
+/// three become the right variants.
 macro_rules! convert_into {
     ($rt:ident, $format:ident, $case:ident, $name:literal => $reading:ident) => {
         let (reading, refusal, memory) = once!($rt, $name => ($format::Error::from($reading),
@@ -159,7 +159,7 @@ fn convert_of_readers(rt: &HostRuntime) {
     convert_into_yaml(rt);
 }
 
-/// Prints the offset, the line, the position and the highlighting of an error in its source.
+/// Prints an error's offset, the text of its source line, its line and column numbers, and its highlighting.
 fn report(rt: &HostRuntime) -> Result<(), AllocError> {
     let mut capacity = String::with_capacity(rt.alloc(), 128)?;
     let e = no_name();

@@ -1,5 +1,5 @@
-//! Calls over sources and documents of 10 KiB. With enough capacity, the calls over sources allocate no more
-//! than those over short sources. Only the length of each output is printed.
+//! Calls over sources and documents of 10 KiB. With enough capacity for the output, the calls over sources
+//! allocate no more than those over short sources. Only the length of each output is printed.
 
 use crate::calls::{Show, again, print_end};
 use crate::{bytes, texts};

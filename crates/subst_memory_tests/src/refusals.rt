@@ -12,10 +12,10 @@ use subst_testing::variables::texts;
 /// A JSON text with two equal keys. The second and the third of its members have refused strings.
 const JSON: &str = "{\"a\":\"x\",\"\\u0061\":{\"b/~\":[\"$name\",\"\\u00e9$absent\"]},\"c\":\"$\"}";
 
-/// A TOML document with a refused string under a dotted key, and one after it.
+/// A TOML document with two refused strings, the first under a dotted key.
 const TOML: &str = "a.\"\\u0062 c\" = ['$name', \"\\u00E9$absent\"]\nd = '$'\n";
 
-/// A YAML text with a refused value under a quoted key, and one after it.
+/// A YAML text with two refused values, the first under a quoted key.
 const YAML: &str = "a: x\nb: {\"c d\": [$name, \"\\u00e9$absent\"]}\nd: $\n";
 
 /// Returns the byte range of the name in the first refused string of each document.
@@ -57,7 +57,8 @@ impl Show for yaml::Path {
 }
 
 /// Makes the calls on the first refused string of a document: `place_in` for the name in it, and `Display` of
-/// its path. `$listed` is the pattern that binds the list `$refused` in the result of `refusals_in`.
+/// its path. The pattern `$listed` matches the result of `refusals_in`, and binds the list in it to
+/// `$refused`.
 macro_rules! calls_of_refusals {
     ($rt:ident, $format:ident, $name:literal, $source:ident, $refused:ident in $listed:pat) => {
         let alloc = $rt.alloc();

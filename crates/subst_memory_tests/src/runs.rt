@@ -1,4 +1,4 @@
-//! Runs of the filter, whose input is read one byte per call.
+//! Runs of the filter over inputs that are read byte by byte.
 
 use crate::calls::{Show, again, once, print_end, print_result};
 use crate::marks::print_out_of_memory;
@@ -137,9 +137,9 @@ pub fn status_of_run(
     run_program(alloc, line, pairs, &mut input, &mut output, &mut errors)
 }
 
-/// Runs the program with the environment `pairs`, or `name=world` if an earlier call has taken `pairs`, and
-/// returns the exit status. If the program's only message is that memory ran out, the message is discarded,
-/// and the result is an error.
+/// Runs the program with the environment `pairs`, and returns the exit status. If an earlier call has taken
+/// `pairs`, the environment is `name=world` instead. If the program's only message is that memory ran out,
+/// the message is discarded, and the result is an error.
 fn ended(
     alloc: Global,
     line: &[String],

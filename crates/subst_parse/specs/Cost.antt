@@ -1,4 +1,4 @@
--- The number of reads of the parser's steps.
+-- The number of reads that the parser's steps make.
 use Rattle.std.specs.Prelude.{◌≡◌, ℕ, ◌+◌, ◌-◌, ◌*◌, ◌≤◌, length, drop, min, Result, Ok, Err}
 use Rattle.subst_language.specs.Language.Name.{BeginsWithNo}
 use Rattle.subst_parse.specs.ByteRun.{IsRun}
@@ -13,8 +13,8 @@ abbrev pub GrowsBetween : (low high old new : ℕ) → Type 0
 GrowsBetween low high old new = (old + low ≤ new) × (new ≤ old + high)
 
 -- Each byte in from..to has the property P, and the byte at `to` doesn't, unless the source ends there.
--- Between the tapes `before` and `after`, the bytes in from..to were read, and so was the byte at `to`, if
--- there is one.
+-- Between the tape's states `before` and `after`, the bytes in from..to were read, and so was the byte at
+-- `to`, if there is one.
 pub record FindsEnd (P : ℕ → Type 0) (before : Tape) (from to : ℕ) (after : Tape) : Type 0 where
   pub run : IsRun P before.source.now from to
   pub end : BeginsWithNo P (drop to before.source.now)
@@ -37,9 +37,9 @@ StepReads before (Ok _) after =
 StepReads before (Err e) after =
     GrowsBetween 1 (2 * (length before.tape.source.now - before.at) + 8) before.tape.reads after.tape.reads
 
--- `StepReads` for the rest of a step, whose first byte has been read already. If the step advances n bytes,
--- the rest makes at least n - 1 and at most 2 * n - 1 reads. If the step begins with n bytes left and ends in
--- an error, the rest makes at most 2 * n + 6 reads.
+-- `StepReads` for the rest of a step, when the rest's first byte has been read already. If the rest advances
+-- n bytes, it makes at least n - 1 and at most 2 * n - 1 reads. If the rest begins with n bytes left and ends
+-- in an error, it makes at most 2 * n + 6 reads.
 abbrev pub StepReadsAfterFirst : {S : Type 0} → Parser S → Result (Unit {0}) Halt → Parser S → Type 0
 StepReadsAfterFirst before (Ok _) after =
     GrowsBetween (after.at - before.at - 1) (2 * (after.at - before.at) - 1)

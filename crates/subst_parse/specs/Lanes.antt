@@ -19,7 +19,7 @@ pub record HasOutside (P : ℕ → Type 0) (bytes lanes : List ℕ) : Type 0 whe
   pub outside : (k : ℕ) → k < 32 → 128 ≤ slice_index lanes k → ¬ (P (slice_index bytes k))
 
 -- the mask has a set bit for each byte of the source s in from..to, unless P holds of the byte; the lowest
--- bit is that of the first byte
+-- bit is that of the byte at `from`
 pub record MarksOutside (P : ℕ → Type 0) (s : List ℕ) (from to mask : ℕ) : Type 0 where
   pub inside : (k : ℕ) → from + k < to → bit_at mask k ≡ 0 → P (slice_index s (from + k))
   pub outside : (k : ℕ) → bit_at mask k ≡ 1 → (from + k < to) × (¬ (P (slice_index s (from + k))))

@@ -109,7 +109,8 @@ pub record IsPart (s : List ℕ) (from to i : ℕ) (part : Part) : Type 0 where
   pub ends : HasNoPlainEnds tree
   pub mean : PartsMean s i (part ∷ []) from tree
 
--- the invariant of the parser, `IsReading`, holds for some first state of its sink
+-- the parser's invariant, `IsReading`, holds for some first state of the sink, and `source` relates this
+-- state to the parser's source
 abbrev pub IsReadingSince : {S First : Type 0} → HoldsFrom S First → (First → List ℕ → Type 0) → ℕ → Parser S
     → Type 0
 IsReadingSince {First = First} holds source limit parser =

@@ -10,7 +10,7 @@ ghost use Rattle.subst_parse.specs.Lanes.{HasOutside};
 use crate::search::{either, equal_to};
 use std::simd::prelude::*;
 
-/// A table that has each byte of names at its own index, and commas elsewhere.
+/// A table that has each name byte at its own index, and commas elsewhere.
 static NAME_BYTES: [u8; 256] = *b"\
     ,,,,,,,,,,,,,,,,,,,,,,,,,,,,,,,,\
     ,,,,,,,,,,,,,,,,0123456789,,,,,,\

@@ -14,10 +14,10 @@ use subst_error::{
     ParseError, UnexpectedCharacter,
 };
 
-/// The message of what is expected after a name in braces.
+/// The message that names the characters expected after a name in braces.
 const AFTER_NAME: &str = "a closing brace ('}'), colon (':') or question mark ('?')";
 
-/// The message of what is expected after a question mark.
+/// The message that names the character expected after a question mark.
 const AFTER_QUESTION_MARK: &str = "a closing brace ('}')";
 
 /// A reason to stop parsing with an error: a `ParseError` without its message. It is kept small, because each
@@ -106,7 +106,7 @@ impl From<Halt> for ParseError {
     }
 }
 
-/// Returns the error of an unexpected character, with the message of what was expected.
+/// Returns the error for an unexpected character, with the message that names the expected characters.
 fn unexpected(position: usize, character: CharOrByte, message: &'static str) -> ParseError
     requires { length message.now ≤ MESSAGE_CAPACITY }
     ensures { parse_fault result

@@ -25,7 +25,7 @@ pub(crate) enum Placeholder {
     Default(Span),
 }
 
-/// Returns the byte escaped by the backslash at `at`, or the fault if no byte that may be escaped follows.
+/// Returns the byte escaped by the backslash at `at`, or the fault if no escapable byte follows.
 #[inline(always)]
 pub(crate) fn escape_at(tape: &mut Tape<'_>, at: usize) -> Result<u8, Halt>
     requires { (rest : List ℕ) × (drop at tape.old.source.now ≡ backslash ∷ rest) }
@@ -64,8 +64,8 @@ pub(crate) fn placeholder_at(tape: &mut Tape<'_>, at: usize) -> Result<Placehold
     }
 }
 
-/// Returns the placeholder `$name` at `at`, or the fault of a missing name. The source must have no `{` after
-/// the dollar.
+/// Returns the placeholder `$name` at `at`, or the fault of a missing name. The source must have no `{`
+/// directly after the dollar.
 #[inline(always)]
 fn short_at(tape: &mut Tape<'_>, at: usize) -> Result<Placeholder, Halt>
     requires dollar { drop at tape.old.source.now ≡ dollar ∷ drop (at + 1) tape.old.source.now }

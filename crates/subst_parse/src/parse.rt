@@ -49,9 +49,9 @@ pub(crate) struct Parser<'s, S: Sink> {
     at: usize,
 }
 
-/// Appends the parts of a source to a sink. Returns the sink, the reads, and the outcome: `Ok`, or an error
-/// for the source's fault or out of memory. The first `plain` bytes must have no `$` and no `\`, and aren't
-/// read.
+/// Appends the parts of a source to a sink. Returns the sink, the counter of reads, and the outcome. The
+/// outcome is `Ok`, or an error: the source's fault or out of memory. The first `plain` bytes must have no
+/// `$` and no `\`, and aren't read.
 #[inline(always)]
 pub fn parse_into<S: Sink>(
     alloc: Global,

@@ -18,7 +18,7 @@ const WIDTH: usize = 32;
 /// The number of plain bytes after which `memchr2` is faster than vectors, as it tests more bytes at a time.
 const NEAR: usize = 1024;
 
-/// The number of bytes in a default after which vectors are faster than single bytes.
+/// The number of a default's bytes after which vectors are faster than tests of single bytes.
 const FEW: usize = 8;
 
 /// A class of bytes with a search for the first byte that isn't in it.
@@ -43,7 +43,7 @@ impl SearchedClass for InnerBytes {
     }
 }
 
-/// Returns the number of bytes before the first `$` or `\`, or of all bytes if there is none.
+/// Returns the number of bytes before the first `$` or `\`, or the source's length if it has neither.
 pub fn plain_len(source: &[u8]) -> usize
     ensures run { IsRun IsPlain source.now 0 result }
     ensures within { result ≤ length source.now }

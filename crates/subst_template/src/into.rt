@@ -31,7 +31,7 @@ use subst_parse::plain_len;
 ///
 /// - `Parse(OutOfMemory)` only if the source has a colon: open defaults are kept in memory.
 /// - `Expand(OutOfMemory)` only if the spare capacity of `output` is too small for the bytes to write: the
-///   whole output, or the bytes before the missing variable.
+///   whole output or, if a variable is missing, the output before it.
 pub fn substitute_bytes_into<'s, 'a, M: VariableMap<'a>>(
     alloc: Global,
     source: &'s [u8],

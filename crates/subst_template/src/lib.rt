@@ -80,10 +80,10 @@ where
     one_pass::substitute::<M, SliceBytes>(alloc, source, plain, MORE_CAPACITY, variables)
 }
 
-/// Expands the text `source` with the values of `variables`, which are texts.
+/// Expands the text `source` with `variables`, whose values are texts.
 ///
-/// The output is that of [`substitute_bytes`] for the bytes of the texts. It is proved to be UTF-8, so there
-/// is no error for invalid UTF-8.
+/// The output is that of [`substitute_bytes`] for the bytes of the source and of the values. It is proved to
+/// be UTF-8, so there is no error for invalid UTF-8.
 ///
 /// ```rust
 /// let mut variables = BTreeMap::new(alloc);

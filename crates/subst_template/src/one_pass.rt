@@ -64,8 +64,8 @@ where
     ensures range { IfErr result
         (λ e. (range_of (substitute_into_fault e)).end ≤ length source.now) }
 
-    // The output consists of bytes from the source and, in place of values, bytes for which `R.is_read`
-    // holds. This holds even if contracts can't state the bytes of the map's values.
+    // The output consists of bytes from the source and, for each value, of bytes for which `R.is_read` holds.
+    // This clause applies even if contracts can't state the bytes of the map's values.
     ensures filled { OnOk result (AppendsTemplate R.is_read (M.look_up variables.now) source.now
         output.old.items output.new.items) }
 {

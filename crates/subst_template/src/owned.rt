@@ -20,7 +20,7 @@ use subst_language::VariableMap;
 use subst_parse::plain_len;
 
 /// The initial capacity of an output beyond its source's length, in bytes. It is small, since outputs of
-/// owned sources are often kept, for example as the strings of a tree.
+/// owned sources are often kept, for example as the strings of a JSON tree.
 const KEPT_CAPACITY: u8 = 24;
 
 /// Returns whether a source has no `$` and no `\`. It then expands to itself, whatever the variables.

@@ -24,7 +24,8 @@ fn offset_and_len(fault: &Error) -> (usize, usize) {
     }
 }
 
-/// Returns the kind of a fault as a text, with the fault's name or character.
+/// Returns the kind of a fault as a text, followed by the variable name or the character that the fault
+/// states, if any.
 fn kind_text(alloc: Global, fault: &Error) -> Result<String, AllocError> {
     match fault {
         Error::InvalidEscapeSequence(e) => match e.character {
@@ -65,7 +66,8 @@ pub fn bytes_or_fault(alloc: Global, filled: Result<Vec<u8>, Error>) -> Result<S
     }
 }
 
-/// Returns `gives` and an output as a text, or as a list of numbers if it isn't UTF-8.
+/// Formats an output: `gives`, followed by the output's text, or by a list of the output's bytes if they
+/// aren't UTF-8.
 fn output_text(alloc: Global, bytes: &[u8]) -> Result<String, AllocError> {
     match str::from_utf8(bytes) {
         Ok(text) => format!(in alloc; "gives {text}"),

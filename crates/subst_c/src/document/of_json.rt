@@ -9,7 +9,7 @@ use crate::pairs::TextPairs;
 use std::alloc::{AllocError, Global};
 use subst_json::{Error, place_in, reader_stop, refusals_in};
 
-/// Fills in the strings of a JSON document from pairs, and returns its text.
+/// Fills in the strings of a JSON document from pairs, and returns the output.
 ///
 /// # Errors
 ///

@@ -9,7 +9,7 @@ use crate::pairs::TextPairs;
 use std::alloc::{AllocError, Global};
 use subst_toml::{Error, place_in, refusals_in};
 
-/// Fills in the strings of a TOML document from pairs, and returns its text.
+/// Fills in the strings of a TOML document from pairs, and returns the output.
 ///
 /// # Errors
 ///

@@ -9,7 +9,7 @@ use crate::pairs::TextPairs;
 use std::alloc::{AllocError, Global};
 use subst_yaml::{Error, Fault, place_in, refusals_in};
 
-/// Fills in the values of a YAML document from pairs, and returns its text.
+/// Fills in the values of a YAML document from pairs, and returns the output.
 ///
 /// # Errors
 ///

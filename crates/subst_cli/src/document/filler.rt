@@ -19,7 +19,7 @@ use subst::{Error, Fill};
 /// A filler that expands each string of a document as a text of its own.
 #[derive(Clone, Copy)]
 pub(crate) struct StringFiller<'r, 'w, 'v> {
-    /// The forms and names that are variables in the strings.
+    /// The placeholders in the strings: which parts of a string are variables.
     pub placeholders: &'r Placeholders<'w>,
     /// The variables, or `None` to only check strings. With `None`, a string without faults is its own
     /// output.

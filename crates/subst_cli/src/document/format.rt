@@ -255,9 +255,9 @@ impl Finder {
     }
 }
 
-/// Maps ranges of a string to ranges in a TOML text, or returns `None` if they aren't found. A range that
-/// ends between a carriage return and its line feed is found only if it is the only range. `toml::place_in`
-/// finds it, but `toml::places_in` doesn't.
+/// Maps ranges of a string to ranges in a TOML text, or returns `None` if one of them isn't found. A range
+/// that ends between a carriage return and its line feed is found only if it is the only range.
+/// `toml::place_in`, which takes a single range, finds such a range; `toml::places_in` doesn't.
 fn places_in_toml(
     alloc: Global,
     text: &str,

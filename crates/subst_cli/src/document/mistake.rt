@@ -19,7 +19,7 @@ const LEVELS: u8 = 127;
 /// The most levels of arrays and inline tables that the reader of TOML accepts, and the most parts of a key.
 const TOML_LEVELS: u8 = 80;
 
-/// The message of the reader of JSON if it states no reason.
+/// The general message of the reader of JSON, which states no reason.
 const INVALID: &str = "invalid JSON";
 
 /// The message of the reader of TOML at one level too many.
@@ -270,6 +270,7 @@ fn is_lone(bytes: &[u8]) -> bool
 }
 
 /// Returns how many bytes to skip after the first: 11 for a surrogate pair, 1 for another escape, or else 0.
+/// The bytes don't begin with a lone surrogate.
 fn bytes_after(bytes: &[u8]) -> u8
     ensures { result ≡ after_first bytes.now }
 {

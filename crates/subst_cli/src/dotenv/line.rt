@@ -36,7 +36,7 @@ pub(crate) enum Line<'t> {
     Wrong(&'static str),
 }
 
-/// Parses the first line of a text. A quoted value in it may span several lines.
+/// Parses the first line of a text. If the line's value is quoted, the value can continue on later lines.
 ///
 /// # Errors
 ///

@@ -212,7 +212,8 @@ fn unset(
     })
 }
 
-/// Removes the digit that a name in a template of a shell-style text may begin with (see `ShellMap`).
+/// Removes the leading digit of a name, if any. In a template of a shell-style text, a name can begin with a
+/// digit (see `ShellMap`).
 ///
 /// # Errors
 ///
@@ -259,7 +260,8 @@ fn variable_at<'t>(
     Ok(counterparts.get(&position).copied())
 }
 
-/// Returns the placeholders in values: a shell's forms of all names. Unset variables expand to nothing.
+/// Returns the chosen placeholders for values of `.env` files: a shell's forms of all names. Unset variables
+/// without an operator expand to nothing.
 fn forms() -> Chosen<'static> {
     Chosen {
         forms: Forms::Shell,

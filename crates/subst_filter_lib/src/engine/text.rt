@@ -49,10 +49,10 @@ where
     // The source was read to its end, unless reading failed or memory ran out.
     ensures whole { OnceRead result (ReadsAll (I.left input.old) (I.left input.new)) }
 
-    // Nothing was written, unless the run is done or writing failed.
+    // Nothing was written, unless the run succeeded or writing failed.
     ensures unwritten { UnlessWriting result (Keeps (O.written output.old) (O.written output.new)) }
 
-    // If the run is done, the output was flushed after the last byte was written.
+    // If the run succeeded, the output was flushed after the last byte was written.
     ensures flushed { OnOk result (O.is_flushed output.new ≡ true) }
 
     // A device is blamed only if it has failed.

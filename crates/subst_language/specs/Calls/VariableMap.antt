@@ -1,5 +1,5 @@
 -- Maps of variables as look-ups of bytes. Contracts see a map through three ghost members of its trait. `see
--- v` is what the value v is identified with: for a reference, what it points to. `Seen` is the type of `see
+-- v` is the value v as contracts see it: for a reference, the value pointed to. `Seen` is the type of `see
 -- v`. `look_up name` is `see` of the value under `name`, or `None`.
 use Rattle.std.specs.Prelude.{◌≡◌, ℕ, List, Option, is_some}
 use Rattle.std.specs.Option.{option_map}

@@ -54,7 +54,7 @@ mutual
     -- `${name:` whose default is never closed
     unclosed : {p : ℕ} (n w : List ℕ) → IsName n → ¬ (Closes w)
         → IsBad p (dollar ∷ opening_brace ∷ n ++ colon ∷ w) (MissingClosingBrace (p + 1))
-    -- `${name:default}` with a fault in the default, and then any bytes
+    -- `${name:default}` and then any bytes, with a fault in the default
     inside : {p : ℕ} {f : Fault} (n w v : List ℕ) → IsName n → IsBalanced w → HasFault (p + 3 + length n) w f
         → IsBad p (dollar ∷ opening_brace ∷ n ++ (colon ∷ w ++ closing_brace ∷ v)) f
 

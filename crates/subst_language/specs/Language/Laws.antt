@@ -1,4 +1,4 @@
--- Laws of the definitions.
+-- Terms in which the laws of the definitions are stated.
 use Rattle.std.specs.Prelude.{◌≡◌, ◌⊎◌, ℕ, ◌+◌, ◌<◌, List, [], ◌∷◌, ◌++◌, length, Some, None}
 use Rattle.subst_error.specs.Fault.{Fault, InvalidEscapeSequence, MissingVariableName, UnexpectedCharacter, MissingClosingBrace, NoSuchVariable}
 use Rattle.subst_language.specs.Language.Bytes.{dollar, opening_brace}
@@ -6,7 +6,8 @@ use Rattle.subst_language.specs.Language.Tree.{Tree}
 use Rattle.subst_language.specs.Language.Sentence.{Spells, IsSentence}
 use Rattle.subst_language.specs.Language.BadItem.{HasFault}
 
--- s is a sentence with one tree, or s has one fault for each position p at which s may begin; never both
+-- either s is a sentence with exactly one tree, or s, beginning at any position p, has exactly one fault;
+-- never both
 pub record OneTreeOrOneFault (s : List ℕ) : Type 0 where
   pub either : ((t : Tree) × Spells t s) ⊎ ((p : ℕ) → (f : Fault) × HasFault p s f)
   pub tree_unique : (t u : Tree) → Spells t s → Spells u s → t ≡ u

@@ -2,7 +2,7 @@
 use Rattle.std.specs.Prelude.{ℕ, ◌+◌}
 use Rattle.subst_error.specs.Fault.{Fault, InvalidEscapeSequence, MissingVariableName, UnexpectedCharacter, MissingClosingBrace, NoSuchVariable}
 
--- the fault, which may be a missing variable, with its position increased by n
+-- the fault with its position increased by n, also if the fault is a missing variable
 abbrev pub moved : ℕ → Fault → Fault
 moved n (InvalidEscapeSequence position character) = InvalidEscapeSequence (position + n) character
 moved n (MissingVariableName position len) = MissingVariableName (position + n) len

@@ -12,7 +12,7 @@ abbrev mutual
   names_in_item (Optional n) = n ∷ []
   names_in_item (Default n t) = n ∷ names_in t
 
-  -- the names of the variables of a tree, in the order of the text, also those in defaults
+  -- the names of a tree's variables, including those in defaults, in their order in the tree's text
   pub names_in : Tree → List (List ℕ)
   names_in Empty = []
   names_in (Then item rest) = names_in_item item ++ names_in rest

@@ -1,5 +1,5 @@
--- The answers of several sources, in order. The lists may have elements of any type instead of sources: `ask`
--- relates an element to its answers.
+-- The answers of several sources, in order. Elements of another type can replace the sources: `ask` relates
+-- an element to its answers, as `under look` does for a source.
 use Rattle.std.specs.Prelude.{◌≡◌, ⊤, ℕ, List, [], ◌∷◌, ◌++◌, length}
 use Rattle.subst_error.specs.Fault.{Fault}
 use Rattle.subst_language.specs.Language.LookUp.{LookUp}

@@ -1,4 +1,6 @@
--- Syntax trees of the template language, and the text of each. In EBNF, where braces in a `default` match:
+-- Syntax trees of the template language, and the text of each. In addition to this EBNF, braces in a
+-- `default` have to match:
+--
 --   template = { item } ;
 --   item     = plain | "\" special | "$" name | "${" name "}" | "${" name "?}"
 --            | "${" name ":" default "}" ;

@@ -3,7 +3,8 @@ use Rattle.std.specs.Prelude.{ℕ, ◌+◌, List, [], ◌∷◌, ◌++◌, lengt
 use Rattle.subst_language.specs.Language.LookUp.{LookUp}
 use Rattle.subst_language.specs.Language.Tree.{Item, Plain, Escaped, Short, Braced, Optional, Default, Tree, Empty, Then, item_text}
 
--- the bytes of a tree, or the first needed name without a value, with its position in the whole source
+-- the bytes that a tree expands to, or the first needed name without a value, with its position in the whole
+-- source
 pub data Value : Type 0 where
   Bytes : List ℕ → Value
   Missing : (position : ℕ) → (name : List ℕ) → Value

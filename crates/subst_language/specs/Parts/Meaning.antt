@@ -61,7 +61,8 @@ abbrev pub resume_index : Part → List ℕ → LookUp → ℕ
 resume_index (Default name next) s look = if_found (look (span_bytes name s)) next
 resume_index _ s look = 0
 
--- the parts that an expansion visits if it skips those before index `from`; the first part has index i
+-- the parts of a list that an expansion visits if it skips those before index `from`; the first part of the
+-- list has index i
 abbrev pub visited_parts : List Part → ℕ → ℕ → List ℕ → LookUp → List Part
 visited_parts [] i from s look = []
 visited_parts (part ∷ rest) i from s look =

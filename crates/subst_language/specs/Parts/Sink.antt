@@ -1,4 +1,4 @@
--- The effect of a sink's calls on the parts that it holds.
+-- The effect of calls to a sink on the parts that it holds.
 use Rattle.std.specs.Prelude.{◌≡◌, ℕ, ◌+◌, ◌^◌, ◌<◌, List, [], ◌∷◌, ◌++◌, length}
 use Rattle.std.specs.List.{AllByRecursion}
 use Rattle.subst_language.specs.Parts.Meaning.{IsInSource, JumpsWithin, IsTemplateOf}

@@ -71,7 +71,8 @@ where
         (λ map name. option_or (look map.first.now name) (other map.second.now name)) }
 {}
 
-/// The law of two maps of texts in layers. The text for a name is the first map's, or else the second's.
+/// The law of two maps of texts in layers. If both maps are look-ups of texts, so is their [`Layered`] map.
+/// The text for a name is that of the first map's value, or else of the second's.
 pub fn layers_are_look_ups_of_texts<'a, M: VariableMap<'a> + 'a, N: VariableMap<'a> + 'a>()
 where
     M::Value: AsStr,

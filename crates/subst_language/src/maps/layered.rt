@@ -54,8 +54,8 @@ pub struct Layered<'a, M, N> {
     pub second: &'a N,
 }
 
-/// The value of the first map, or else of the second. The second map is searched only if the first has no
-/// value.
+/// The first map's value for the name, or else the second's. The second map is searched only if the first has
+/// no value.
 impl<'a, M: VariableMap<'a>, N: VariableMap<'a>> VariableMap<'a> for Layered<'a, M, N> {
     ghost use Rattle.std.specs.Prelude.{◌⊎◌};
     ghost use Rattle.std.proofs.Common.{inl, inr};
@@ -80,7 +80,7 @@ impl<'a, M: VariableMap<'a>, N: VariableMap<'a>> VariableMap<'a> for Layered<'a,
     }
 }
 
-/// The bytes of the value of the first map, or else of the second.
+/// The bytes of the first map's value for the name, or else those of the second's.
 impl<'a, M: BytesMap<'a>, N: BytesMap<'a>> BytesMap<'a> for Layered<'a, M, N>
 where
     M::Value: AsSlice<u8>,

@@ -19,7 +19,7 @@ pub struct NoEmpty<'a, M> {
     pub map: &'a M,
 }
 
-/// The value that the map has for the name, or `None` if that value is empty.
+/// The value that `map` has for the name, or `None` if that value is empty.
 impl<'a, M: BytesMap<'a>> VariableMap<'a> for NoEmpty<'a, M>
 where
     M::Value: AsSlice<u8> + Drop,
@@ -45,7 +45,7 @@ where
     }
 }
 
-/// The bytes of the value that the map has for the name, or `None` if that value is empty.
+/// The bytes of the value that `map` has for the name, or `None` if that value is empty.
 impl<'a, M: BytesMap<'a>> BytesMap<'a> for NoEmpty<'a, M>
 where
     M::Value: AsSlice<u8> + Drop,

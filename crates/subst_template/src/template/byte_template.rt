@@ -1,6 +1,6 @@
-//! Templates over borrowed byte sources: a source, with parts that are owned or borrowed. Only a sentence has
-//! a template, which expands to the value of the source's tree. Contracts bound the reads of a parse and
-//! count the turns of an expansion.
+//! Templates over borrowed byte sources. Each has a source and its parts, and the parts are owned or
+//! borrowed. Only a sentence has a template. The template expands to the value of the source's tree.
+//! Contracts bound the reads of a parse and count the turns of an expansion.
 
 ghost use Rattle.std.specs.Prelude.{◌≡◌, ◌+◌, ◌*◌, ◌^◌, ◌≤◌, length, IfOk, IfErr, OnErr, OnOk};
 ghost use Rattle.std.specs.Prelude.{vec_capacity, vec_len};
@@ -126,7 +126,7 @@ impl<'a> ByteTemplate<'a> {
     ///
     /// # Errors
     ///
-    /// As `expand`. If the expansion fails, some parts may not be visited, and no contract states that each
+    /// As `expand`. If the expansion fails, some parts may remain unvisited, and no contract states that each
     /// visited part is counted.
     pub fn expand_counted<'b, M: VariableMap<'b>>(
         &self,
@@ -180,11 +180,12 @@ impl<'a> ByteTemplate<'a> {
         ensures value { ByValue M.Value.items M.see (M.look_up variables.now) self.now
             (ExpandsInto output.old.items result output.new.items) }
 
-        // For any map, an error leaves the items unchanged, and the capacity only grows.
+        // For any map: an error leaves the items of `output` unchanged, and the capacity of `output` never
+        // shrinks.
         ensures kept { OnErr result (output.new.items ≡ output.old.items) }
         ensures capacity { vec_capacity output.old ≤ vec_capacity output.new }
 
-        // Out of memory only if the spare capacity is less than the bytes written.
+        // Memory runs out only if the spare capacity is less than the number of bytes to write.
         ensures full { ByWritten M.Value.items M.see (M.look_up variables.now) self.now
             (Overflows (vec_capacity output.old) (vec_len output.old) result) }
         ensures sentence { IsSentence self.now }

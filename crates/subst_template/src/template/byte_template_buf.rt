@@ -21,7 +21,7 @@ use subst_expand::{CowParts, PartVec};
 use subst_language::{Variable, VariableMap};
 use subst_parse::Reads;
 
-/// A template that owns its byte source. Contracts see it as its source.
+/// A template that owns its byte source. Contracts see the template as its source.
 #[derive(Drop)]
 pub struct ByteTemplateBuf {
     source: Vec<u8>,
@@ -148,11 +148,12 @@ impl ByteTemplateBuf {
         ensures value { ByValue M.Value.items M.see (M.look_up variables.now) self.now
             (ExpandsInto output.old.items result output.new.items) }
 
-        // For any map, an error leaves the items unchanged, and the capacity only grows.
+        // For any map: an error leaves the items of `output` unchanged, and the capacity of `output` never
+        // shrinks.
         ensures kept { OnErr result (output.new.items ≡ output.old.items) }
         ensures capacity { vec_capacity output.old ≤ vec_capacity output.new }
 
-        // Memory runs out only if the spare capacity is less than the bytes written.
+        // Memory runs out only if the spare capacity is less than the number of bytes to write.
         ensures full { ByWritten M.Value.items M.see (M.look_up variables.now) self.now
             (Overflows (vec_capacity output.old) (vec_len output.old) result) }
         ensures sentence { IsSentence self.now }

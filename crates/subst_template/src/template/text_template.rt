@@ -126,11 +126,12 @@ impl<'a> Template<'a> {
         ensures value { ByValue M.Value.text M.see (M.look_up variables.now) self.now
             (ExpandsInto (string_bytes output.old) result (string_bytes output.new)) }
 
-        // For any map, an error leaves the text unchanged, and the capacity only grows.
+        // For any map: an error leaves the text in `output` unchanged, and the capacity of `output` never
+        // shrinks.
         ensures kept { OnErr result (string_bytes output.new ≡ string_bytes output.old) }
         ensures capacity { string_capacity output.old ≤ string_capacity output.new }
 
-        // Out of memory only if the spare capacity is less than the bytes written.
+        // Memory runs out only if the spare capacity is less than the number of bytes to write.
         ensures full { ByWritten M.Value.text M.see (M.look_up variables.now) self.now
             (Overflows (string_capacity output.old) (string_len output.old) result) }
         ensures sentence { IsSentence self.now }
