@@ -11,7 +11,7 @@ ghost use Rattle.subst_json.specs.Nesting.{expected, AreExpected};
 use json::Token;
 use std::alloc::{AllocError, Global};
 
-/// The maximum nesting depth of arrays and objects, as in the reader of trees.
+/// The maximum nesting depth of arrays and objects that `serde_json` reads.
 const MAX_DEPTH: usize = 127;
 
 /// An expected part of a text.

@@ -122,7 +122,7 @@ fn copied_step(alloc: Global, step: &PathStep) -> Result<PathStep, AllocError>
 }
 
 /// Changes `steps`, the path to `token`, into the path to the next token. In an object, the last step is the
-/// latest key, or an empty key before the first. Returns `false` if an index overflows.
+/// latest key; until the first key, it is an empty key. Returns `false` if an index overflows.
 fn advance(alloc: Global, steps: &mut Vec<PathStep>, token: Token<'_>) -> Result<bool, AllocError>
     ensures { IfOk result (λ is. IsTrue is → reverse (map step_of steps.new.items)
         ≡ past_token (token_of token.entry) (reverse (map step_of steps.old.items))) }
@@ -151,8 +151,8 @@ fn advance(alloc: Global, steps: &mut Vec<PathStep>, token: Token<'_>) -> Result
     }
 }
 
-/// Changes `steps`, the path to a value, into the path to the next part. If the last step is an index, it is
-/// incremented; otherwise the path is unchanged. Returns `false` if the index overflows.
+/// Changes `steps`, the path to a value, into the path to the token after the value. If the last step is an
+/// index, it is incremented; otherwise the path is unchanged. Returns `false` if the index overflows.
 fn advance_past_value(steps: &mut Vec<PathStep>) -> Result<bool, AllocError>
     ensures { IfOk result (λ is. IsTrue is → reverse (map step_of steps.new.items)
         ≡ past_value (reverse (map step_of steps.old.items))) }

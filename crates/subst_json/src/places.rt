@@ -53,7 +53,7 @@ impl Pieces for Token<'_> {
 }
 
 /// A finder of the spans that [`places_in`] returns, for many strings of one document. It keeps the reader's
-/// buffers, so each call takes time linear in the length of the string's token.
+/// buffers between calls. Each call takes time linear in the length of the string's token.
 #[derive(Drop)]
 pub struct RangeFinder {
     format: JsonStrings,

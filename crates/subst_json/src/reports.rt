@@ -18,9 +18,10 @@ use subst_language::VariableMap;
 ///
 /// If a string is refused, every refused string is reported, in document order. The report of each is a line
 /// `FILE:LINE:COLUMN: PATH: fault`, and the underlined line of the text if `error::underline` of `subst`
-/// returns one. If the text isn't JSON, the reader's message is reported in the same form, without a path.
-/// The report has no line and column if a tree doesn't fit a type, or if the position of a fault isn't
-/// confirmed. No text is known for which a position isn't confirmed.
+/// returns one. If the text isn't JSON, the reader's message is reported in the same form, without a path. If
+/// the filled-in tree doesn't fit the type that the call returns, the report has no line and column either. A
+/// fault whose position isn't confirmed is reported without a line and column. No text is known for which a
+/// position isn't confirmed.
 ///
 /// ```text
 /// web.json:1:4: /0: ..
@@ -41,7 +42,7 @@ pub fn report<'a, M: VariableMap<'a>>(
 where
     M::Value: AsStr + Drop,
 
-    // The text reports each refused string, or the reader's message.
+    // The returned text reports each refused string, or the reader's message.
     ensures report { IfOk result (λ text.
         Reports (AnswersText M.Value.text M.see (M.look_up variables.now)) file.now source.now
         e.now (string_bytes text)) }

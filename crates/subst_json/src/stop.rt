@@ -14,7 +14,8 @@ pub struct ReaderStop {
     pub message: String,
 }
 
-/// Returns the position and the message of the reader's error `e`, from its line and column in `source`.
+/// Returns the position and the message of the reader's error `e`. The position is computed from the line and
+/// column of `e` in `source`.
 ///
 /// # Errors
 ///

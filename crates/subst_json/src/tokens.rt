@@ -152,7 +152,7 @@ impl StringFormat for JsonStrings {
     }
 }
 
-/// Returns whether `token` is `text` between quotes, and `text` needs no escapes.
+/// Returns whether `text` needs no escapes and `token` is `text` between quotes.
 fn is_verbatim(token: &str, text: &str) -> bool
     ensures { IsTrue result → IsStringToken token.now text.now }
 {

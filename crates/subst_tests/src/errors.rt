@@ -1,4 +1,4 @@
-//! Errors: their formatting, equality, conversions and clones. Rows of `subst_vectors` have the texts of
+//! Errors: their formatting, equality, conversions and clones. Rows of `subst_vectors` test the texts of
 //! faults.
 
 use crate::expect::{Testing, expect_debug, expect_display, expect_plain};

@@ -28,7 +28,7 @@ const OF_ENVSUBST: [Row<'static>; 9] = [
     ("${a}}$a}${${a}}", "${a}}$a}\\${${a}}", "1}1}${1}"),
 ];
 
-/// Chosen names, and a text's row if only these names are variables.
+/// Lists of chosen names, each with a row. No other name is a variable in the row's text.
 const WITH_ONLY: [(&[&str], Row<'static>); 5] = [
     (&[], ("$a \\", "\\$a \\\\", "$a \\")),
     (
@@ -50,7 +50,7 @@ const WITH_ONLY: [(&[&str], Row<'static>); 5] = [
     ),
 ];
 
-/// Texts in each form, with all names chosen.
+/// Texts in each of the `Forms`, with all names chosen.
 const OF_FORMS: [(Forms, Missing, Row<'static>); 10] = [
     (
         Forms::Own,
@@ -120,8 +120,8 @@ const OF_FORMS: [(Forms, Missing, Row<'static>); 10] = [
     (Forms::Common, Missing::Nothing, ("", "", "")),
 ];
 
-/// Texts in several forms. A name is a variable if `VARIABLES` has a value for it, or if an operator follows
-/// it.
+/// Texts in several of the `Forms`. A name is a variable if `VARIABLES` has a value for it, or if an operator
+/// follows it.
 const OF_KNOWN: [(Forms, Row<'static>); 3] = [
     (Forms::Own, ("$a $x ${x:d}", "$a \\$x ${x:d}", "1 $x d")),
     (Forms::Envsubst, ("$a:${x}", "$a:\\${x}", "1:${x}")),

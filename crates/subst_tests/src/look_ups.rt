@@ -1,5 +1,5 @@
 //! Look-ups, recorded by a map: the name of each placeholder that a call reaches is looked up once, in order.
-//! If a source has a fault, calls without a template also look up the names before the fault.
+//! If a source has a fault, calls without a template still look up the names before the fault.
 //!
 //! No contract states how often `get` is called, or with which names.
 
@@ -12,7 +12,7 @@ use subst::{
     substitute_bytes_owned, substitute_into, substitute_owned, toml,
 };
 
-/// A map with the variable `1`, which records the names looked up, in order, as the digits of `names`.
+/// A map in which only `1` is set. It records the names looked up, in order, as the digits of `names`.
 #[derive(Drop)]
 struct RecordingMap {
     names: Cell<u64>,
@@ -194,8 +194,9 @@ const JSON: &str = r#"{"b":["$1","${2:$1}"],"a":"${3?}$1","c":"$1"}"#;
 const TOML: &str = "b = ['$1', '${2:$1}']\na = '${3?}$1'\nc = '$1'\n";
 
 /// Reading a tree looks up the names of each string once, and so does filling in a text in place. If a string
-/// of the text has several placeholders and changes, its names are looked up once more. Filling in a TOML
-/// text in place fills in its tree first, so the names of each string are looked up one more time.
+/// of the text changes and has several placeholders outside defaults, its names are looked up once more.
+/// Filling in a TOML text in place fills in its tree first, so the names of each string are looked up one
+/// more time.
 #[test]
 fn documents_look_up_the_names_of_each_string(rt: HostRuntime) {
     let alloc = rt.alloc();

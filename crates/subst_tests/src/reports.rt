@@ -13,8 +13,8 @@ use std::test::Fail;
 use subst::error::{MissingClosingBrace, MissingVariableName};
 use subst::{Error, NoSubstitution, substitute};
 
-/// Expects that a fault's line and column are `want`, such as `1:7`. The highlighting that the
-/// library writes has to equal the one that it returns.
+/// Expects that a fault's line and column are `want`, such as `1:7`. Also expects that
+/// `write_source_highlighting` writes the text that `source_highlighting` returns.
 fn expect_position(
     rt: &impl Testing,
     fault: &Error,

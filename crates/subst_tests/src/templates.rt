@@ -1,6 +1,6 @@
-//! Templates expanded with two maps, owned templates that are taken apart, expansion into slices, `{:?}` of
-//! templates, and escaped texts. Rows of `subst_vectors` test other outputs, among them those of borrowed
-//! templates and of copies.
+//! A template expanded with each of two maps, owned templates that are taken apart, expansion into slices,
+//! `{:?}` of templates, and escaped texts. Rows of `subst_vectors` test other outputs, among them those of
+//! borrowed and of copied templates.
 
 use crate::expect::expect;
 use std::alloc::{AllocError, Global};

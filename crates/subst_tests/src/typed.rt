@@ -74,7 +74,7 @@ fn a_struct_of_json(rt: HostRuntime) {
             "{\"bar\":\"$bar\",\"baz\":\"$baz/with/stuff\",\"ports\":[80,8080]}",
             "Config { bar: \"aap\", baz: \"noot/with/stuff\", ports: [80, 8080] }",
         ),
-        // A value is never read as a template.
+        // The value of a variable is never read as a template.
         (
             "{\"bar\":\"$verbatim\",\"baz\":\"${x:$verbatim}\",\"more\":1}",
             "Config { bar: \"$bar${a:x}\\\\\\\"\", baz: \"$bar${a:x}\\\\\\\"\", ports: [] }",

@@ -30,7 +30,7 @@ HasOwnMemory (Toml e) = ¬ (IsMemory e)
 HasOwnMemory (Subst e) = IsSome (error_fault e)
 HasOwnMemory (OutOfMemory e) = ⊤
 
--- the text of an error, or `None` for `InvalidUtf8 e` and `Toml e`, since the text of e isn't known
+-- the text of an error, or `None` if no contract states the text, as for `InvalidUtf8 e` and `Toml e`
 abbrev pub display_of_toml : Error → Option (List ℕ)
 display_of_toml (InvalidUtf8 e) = None
 display_of_toml (Toml e) = None

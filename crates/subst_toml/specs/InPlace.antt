@@ -25,7 +25,7 @@ pub record FillsIn (ask : List ℕ → Answer → Type 0) (source : List ℕ)
     (result : Result (Option (String Global)) Error) : Type 0 where
   pub output : IfOk result (λ output. IfSome output
       (λ output. IsFilledDocument (GivesBy ask) source (string_bytes output)))
-  -- `None` is returned only if some string changes
+  -- `None` (no output is confirmed) is returned only if some string changes
   pub unconfirmed : IfOk result (λ output. IfNone output
       (ReadsAsTree source (λ d. SomeChanges (GivesBy ask) (strings d))))
   pub utf8 : StatesUtf8 source result

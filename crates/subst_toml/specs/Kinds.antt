@@ -7,9 +7,9 @@ use Rattle.toml_parser.specs.Lexical.{apostrophe, first, is_non_eol}
 abbrev pub is_literal : ℕ → Bool
 is_literal b = is_non_eol b && not (b == apostrophe)
 
--- The token's kind of string can spell the value. An empty value doesn't fit: after a backslash at a line's
--- end, the white space that is left out would extend past the value. In single quotes each byte of the value
--- has to be literal.
+-- The token's kind of string can spell the value. An empty value doesn't fit, since a line continuation (a
+-- backslash at a line's end) before it would also leave out white space after it. In single quotes each byte
+-- of the value has to be literal.
 abbrev pub fits : List ℕ → List ℕ → Bool
 fits token value =
     not (length value == 0) && (if first token == apostrophe then list_all is_literal value else true)

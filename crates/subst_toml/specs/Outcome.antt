@@ -71,8 +71,8 @@ if_subst (OutOfMemory e) P = ⊤
 abbrev pub OnSubst : {T : Type 0} → Result T Error → (Fault → Type 0) → Type 0
 OnSubst result P = IfErr result (λ e. if_subst e P)
 
--- Clauses of calls that read the text s and fill in its tree from a map. The map's answers are those of
--- `AnswersText` with `items`, `see` and `look_up`.
+-- Contract clauses for calls that read the text s and fill in its tree from a map. The map's answers are
+-- those of `AnswersText` with `items`, `see` and `look_up`.
 
 -- a call that succeeds returns the tree of the text s, with its strings filled in
 abbrev pub ReturnsTree : {V Seen : Type 0} → (V → List ℕ) → (V → Seen) → (List ℕ → Option Seen) → List ℕ

@@ -1,5 +1,6 @@
 //! Fills in a tree by two walks. The first computes the changes without touching the tree, or returns the
-//! first refusal. The second moves the new texts in. Items are visited by index, and members by key.
+//! first refusal. The second moves the new texts in. Both visit items in the order of their indices, and
+//! members in the order of their keys.
 
 ghost use Rattle.std.specs.Prelude.{◌≡◌, IfOk, IsTrue};
 ghost use Rattle.toml.specs.View.{view, items_view, members_view};

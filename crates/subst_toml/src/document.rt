@@ -1,8 +1,8 @@
-//! Filling in of a document's strings in place. Comments, keys, the order of lines and every other byte are
-//! kept.
+//! Filling in of a document's strings in place. All else is kept byte for byte, such as comments, keys and
+//! the order of lines.
 //!
-//! A walk over the text finds its strings, and each one that changes is rewritten. The output is then read
-//! again, and compared with the filled-in tree.
+//! A walk over the text finds its strings, and each one that changes is rewritten. The output is then read,
+//! and its tree is compared with the filled-in tree.
 
 ghost use Rattle.std.specs.Prelude.{◌≡◌, Some, IfOk, IfSome, IsTrue, string_bytes};
 ghost use Rattle.toml.specs.Parse.{parse_document};

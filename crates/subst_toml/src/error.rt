@@ -90,8 +90,9 @@ impl fmt::Display for Error {
 
     ghost output = { display_of_toml };
 
-    // If the error's text quotes a non-ASCII character, `writes` doesn't state the text, since the character
-    // may be escaped or not. If a string is refused, `text` states the error's text up to this choice.
+    // If the error's text quotes a non-ASCII character, the clause `writes` doesn't state the text, since the
+    // character may be escaped or not. If a string is refused, the clause `text` states the error's text, but
+    // leaves this choice open.
     fn fmt<W: fmt::Write>(&self, f: &mut fmt::Formatter<W>) -> fmt::Result
         ensures writes { DisplaysOnOk W.write_str_gives f.old result
             (display_of_toml self.now) f.new }

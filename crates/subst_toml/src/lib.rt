@@ -61,8 +61,8 @@ mod typed;
 ///
 /// # Errors
 ///
-/// The error of the first refused string, as of `substitute`: positions are byte offsets in that string.
-/// `OutOfMemory` if allocation fails. After an error the tree is unchanged.
+/// The error that `substitute` returns for the first refused string. Positions are byte offsets in that
+/// string. `OutOfMemory` if allocation fails. After an error the tree is unchanged.
 pub fn substitute_string_values<'a, M: VariableMap<'a>>(
     alloc: Global,
     value: &mut Value,
@@ -162,7 +162,7 @@ where
 /// # Errors
 ///
 /// As [`value_from_str`]. Also `Toml` if the filled-in tree isn't a `T`, or possibly if it nests more than 80
-/// deep. The error's position refers to the printed tree, from which a `T` is read.
+/// deep. The position of such an error refers to the printed tree, from which a `T` is read.
 pub fn from_str<'a, T: FromText, M: VariableMap<'a>>(
     alloc: Global,
     source: &str,
@@ -175,7 +175,8 @@ where
     ensures ok { ReadsType M.Value.text M.see (M.look_up variables.now) T.reads source.now result }
     ensures utf8 { StatesUtf8 source.now result }
 
-    // `Toml` is either the reader's error for a text that isn't a document, or the error of the conversion.
+    // The inner error of `Toml` is the reader's if the source isn't a document; otherwise it is that of the
+    // conversion.
     ensures toml { StatesReading M.Value.text M.see (M.look_up variables.now) T.reads
         source.now result }
     ensures subst { StatesFirst M.Value.text M.see (M.look_up variables.now) source.now result }

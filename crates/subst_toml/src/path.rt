@@ -19,7 +19,8 @@ pub struct Path {
     pub steps: Vec<PathStep>,
 }
 
-/// Writes the keys, quoted if need be, with dots between them, and the indices in brackets.
+/// Writes the keys, quoted if need be, and the indices in brackets. A dot precedes each key that isn't the
+/// first step.
 impl fmt::Display for Path {
     ghost output = { λ path. Some (dotted_text (steps_of path)) };
 
@@ -33,7 +34,7 @@ impl fmt::Display for Path {
     }
 }
 
-/// Writes a step: `dot` followed by a key, or an index in brackets.
+/// Writes a step: a key after `dot`, or an index in brackets.
 ///
 /// # Errors
 ///

@@ -22,10 +22,10 @@ pub(crate) mod spelling;
 /// `range` is in byte offsets of the string.
 ///
 /// The span begins at the spelling of the character at `range.start`, or at the closing quotes if the string
-/// ends there. Its beginning skips the newline after the opening quotes of a multi-line string. It also skips
-/// a backslash at a line's end, with the white space and newlines after it. The span ends after the spelling
-/// of the last character. If that character is a carriage return before a line feed, neither escaped, the
-/// span ends after both. The span of an empty range is empty.
+/// ends there. Its beginning skips the newline after the opening quotes of a multi-line string. The beginning
+/// also skips a backslash at a line's end, with the white space and newlines after it. The span ends after
+/// the spelling of the last character. If that character is a carriage return before a line feed, neither
+/// escaped, the span ends after both. The span of an empty range is empty.
 ///
 /// The result is `None` if the token isn't a string, or if an offset is past the string's end or inside a
 /// character. It is also `None` if the range begins between a carriage return and a line feed, neither

@@ -1,5 +1,5 @@
 //! The spans in a TOML document that spell many ranges of one string. Each piece of the string's token is put
-//! between quotes and read by itself. Only spans that the reader confirms are returned.
+//! between quotes and read as a string of its own. Only spans that the reader confirms are returned.
 
 ghost use Rattle.std.specs.Prelude.{◌≡◌, ◌++◌, ◌∷◌, [], IfOk, IfSome, IsTrue, string_bytes};
 ghost use Rattle.subst_toml.specs.Places.{IsTokenOf};
@@ -23,7 +23,7 @@ struct Token<'t> {
 }
 
 impl Token<'_> {
-    /// Returns the token's kind of string.
+    /// Returns the kind of string that the token spells.
     fn style(&self) -> Style {
         Style::of(self.quotes)
     }
@@ -34,13 +34,14 @@ impl Token<'_> {
         self.source.get(from..end)
     }
 
-    /// Returns the offset in the source at which `rest` begins. `rest` is the end of the token's content.
+    /// Returns the offset in the source at which `rest` begins. `rest` is a suffix of the token's content.
     fn place_of(&self, rest: &str) -> Option<usize> {
         let end = self.span.end.checked_sub(self.quotes.len())?;
         end.checked_sub(rest.len())
     }
 
-    /// Returns the offset in the source at which the token's content begins.
+    /// Returns the offset in the source at which the token's content begins. A newline right after three
+    /// opening quotes is skipped.
     fn start(&self) -> Option<usize> {
         let opened = self.span.start.checked_add(self.quotes.len())?;
         self.place_of(without_newline(self.content(opened)?, self.style()))
@@ -96,8 +97,8 @@ impl Pieces for Token<'_> {
 /// `token` is the byte range in `source` of the string with its quotes. `ranges` are in byte offsets of the
 /// string, in order and without overlaps. Each maps to the span that `place_in` returns, but the token is
 /// scanned only once. The result is `None` if the token isn't a string, or if the ranges overlap. It is also
-/// `None` if a range ends past the string's end, inside a character, or between a carriage return and a line
-/// feed.
+/// `None` if an offset is past the string's end, inside a character, or between an unescaped carriage return
+/// and line feed.
 ///
 /// # Errors
 ///

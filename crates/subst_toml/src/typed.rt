@@ -19,7 +19,7 @@ use toml::{Table, ser};
 pub trait FromText: Sized + Drop {
     // The relation of a text and the possible results of its conversion. For the types of `serde`, it is only
     // known that the span of an error is within the text. A contract in terms of `reads` still states which
-    // text is converted, since the contract holds for every such relation.
+    // text is converted, since the contract holds whatever relation `reads` is.
     ghost reads: { List ℕ → Result Self Error → Type 0 };
 
     /// Converts a text, or returns an error if it isn't a document or doesn't fit this type.

@@ -22,13 +22,13 @@ abbrev pub IsValueOf : LookUp → (s : List ℕ) → Given → Type 0
 IsValueOf look s given = (items : text.Text) × text.IsText compose false items [] × (s ≡ text.spelling items)
     × (text.text_value Shell Nothing items look ≡ given)
 
--- the fault states the missing variable of the text s; in the fault, a digit may precede the variable's name,
--- as in a name that a `ShellMap` reads as a question
+-- the fault states the missing variable of the text s; in the fault, as in the template for a `ShellMap`, a
+-- digit can precede the variable's name
 abbrev pub IsMissingOf : LookUp → (s : List ℕ) → Fault → Type 0
 IsMissingOf look s f = (position : ℕ) × (name : List ℕ) × (f ≡ NoSuchVariable position name)
     × IsValueOf look s (Err (without_question name))
 
--- the error states the first refused form of the text s, or its missing variable
+-- the error states the first refused form of the text s, or the missing variable of s
 abbrev pub IsFaultOf : LookUp → (s : List ℕ) → ComposeError → Type 0
 IsFaultOf look s (Text e) = IsRefusalOf compose s e
 IsFaultOf look s (Variable e) = IfSome (error_fault e) (IsMissingOf look s)

@@ -8,7 +8,7 @@ use Rattle.subst.specs.Calls.Clauses.{AnswersText}
 use Rattle.subst.specs.Calls.Maps.{first_value, layered, of_one}
 use Rattle.subst.specs.Language.Answer.{Answer}
 
--- the answers of a text under an environment, with defaults for the names that it doesn't set
+-- the answers of a text under an environment, with defaults for the names that the environment doesn't set
 abbrev pub answers_of : List (String Global × String Global) → BTreeMap (String Global) (String Global)
     → List ℕ → Answer → Type 0
 answers_of environment defaults =

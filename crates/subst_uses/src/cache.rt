@@ -13,13 +13,13 @@ use std::marker::Model;
 use subst::error::ExpandError;
 use subst::{ByteTemplate, Variable, laws};
 
-/// A template and its latest output. Contracts see it as this pair.
+/// A template and its latest output. Contracts see a `Cached` as this pair.
 #[derive(Drop)]
 pub struct Cached<'t> {
     template: ByteTemplate<'t>,
     /// The variables of the template.
     needed: Vec<Variable<'t>>,
-    /// The variables with which `output` was expanded.
+    /// The variables with which the template was expanded to `output`.
     variables: BTreeMap<String, String>,
     output: Vec<u8>,
 }

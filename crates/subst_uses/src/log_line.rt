@@ -1,20 +1,20 @@
-//! Lines of a log, whose capacity is reserved in advance, so that no line allocates.
+//! Lines of a log. The log's capacity is reserved in advance, so that appending a line never allocates.
 
 ghost use Rattle.std.specs.Prelude.{◌≡◌, ◌↔◌, ◌≤◌, ◌+◌, ◌++◌, length, max, codes, IfSome, IsSome, IsTrue, IsFalse, vec_capacity, vec_len};
 ghost use Rattle.subst_uses.specs.declared.log_line.TheConstants.{LONGEST};
 
 use subst::{ByteTemplate, VariableMap};
 
-/// The template of a line: its level and its message.
+/// The source of a line: the level, a space, the message and a line feed.
 pub const LINE: &[u8] = b"$level $message\n";
 
 /// The maximum length of a field in bytes.
 pub const LONGEST: usize = 200;
 
-/// The capacity that suffices for any line: the length of `LINE`, and twice `LONGEST`.
+/// A capacity that suffices for any line: the length of `LINE` plus twice `LONGEST`.
 pub const ROOM: usize = LINE.len() + 2 * LONGEST;
 
-/// A map with the variables `level` and `message`, neither longer than `LONGEST`.
+/// A map with the variables `level` and `message`, whose values have at most `LONGEST` bytes each.
 #[derive(Drop)]
 pub struct Fields<'f> {
     pub level: &'f str,
@@ -57,7 +57,7 @@ impl<'a> VariableMap<'a> for Fields<'a> {
 }
 
 /// Appends a line to a log: the level, a space, the message and a line feed. Returns `false`, and leaves the
-/// log unchanged, exactly if the log lacks the capacity for the longest line.
+/// log unchanged, exactly if fewer than `ROOM` bytes of the log's capacity are free.
 pub fn append_line(line: &ByteTemplate<'_>, fields: &Fields<'_>, log: &mut Vec<u8>) -> bool
     requires { line.now ≡ LINE.now }
     ensures room { IsTrue result ↔ (vec_len log.old + ROOM ≤ vec_capacity log.old) }

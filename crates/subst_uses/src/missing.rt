@@ -15,7 +15,7 @@ use std::alloc::{AllocError, Global};
 use std::collections::BTreeMap;
 use subst::{Error, Template, Variable, laws, substitute};
 
-/// A source of values for missing variables.
+/// A prompt for the values of missing variables.
 pub trait Prompt {
     /// Prompts for the value of a variable.
     fn ask(&mut self, alloc: Global, name: &str) -> Result<String, AllocError>;

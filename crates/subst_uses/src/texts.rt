@@ -32,8 +32,8 @@ pub fn kept(alloc: Global, source: &str) -> Result<TemplateBuf, ParseError>
     Ok(TemplateBuf::from_template(alloc, &template)?)
 }
 
-/// Returns a copy of a template. The copy is made from a `Template` that borrows from a clone of the
-/// template.
+/// Returns a copy of a template. Clones the template, borrows the clone as a `Template`, and makes the copy
+/// from this `Template`.
 pub fn copied(alloc: Global, template: &TemplateBuf) -> Result<TemplateBuf, AllocError>
     ensures { IfOk result (λ copy. copy ≡ template.now) }
 {

@@ -10,7 +10,8 @@ use subst::Error;
 pub enum Answer {
     /// The output of the source.
     Gives(Vec<u8>),
-    /// The fault of the source or of the first refused string, or a missing variable.
+    /// The fault of the source, or of the first refused string of a document. A missing variable is a fault
+    /// too.
     Refuses(Error),
     /// The source can't be read. The text names the error: `Json`, `Toml` or `InvalidUtf8`.
     IsNot(&'static str),

@@ -10,7 +10,7 @@ pub const IN_TEXT: &str = "%";
 /// The characters written as `%XX` in an entry of a list.
 pub const IN_LIST: &str = "%,=";
 
-/// Returns the column that encodes these bytes, in which characters of `escaped` are written as `%XX`.
+/// Encodes bytes as a column. Characters in `escaped` are written as `%XX`.
 pub fn encoded(alloc: Global, bytes: &[u8], escaped: &str) -> Result<String, AllocError> {
     let mut column = String::new(alloc);
     for chunk in bytes.utf8_chunks() {

@@ -16,9 +16,9 @@ pub trait Format {
     /// The prefix of the names of calls, such as `json::`.
     const MODULE: &'static str;
 
-    /// Whether a document may have equal keys. Of several members with the same key, a tree keeps only the
-    /// last. The strings of a tree are visited in the order of its keys. In a text, each member is filled in,
-    /// in document order.
+    /// Whether the format allows several members with the same key. A tree keeps only the last of them, and
+    /// the tree's strings are visited in the order of its keys. In a text, each member is filled in, in
+    /// document order.
     const HAS_EQUAL_KEYS: bool;
 
     type Tree: Drop;

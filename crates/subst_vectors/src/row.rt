@@ -1,4 +1,4 @@
-//! Rows: a kind, a source, its variables, and the expected answer.
+//! Rows: a kind, a source, values of variables, and the expected answer.
 
 use crate::encoding::{IN_LIST, IN_TEXT, read};
 use std::alloc::{AllocError, Global};
@@ -49,7 +49,7 @@ pub struct Row<'l> {
     pub kind: Kind,
     /// The bytes of the source.
     pub source: Vec<u8>,
-    /// The variables of the source.
+    /// The values of variables, by name.
     pub values: Values,
     /// The columns of the expected answer.
     pub expected: &'l str,

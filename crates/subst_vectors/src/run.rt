@@ -66,7 +66,8 @@ fn source_text<'r>(row: &'r Row<'_>) -> Option<&'r str> {
     }
 }
 
-/// Makes the calls for a row and adds their answers. Returns `false` if a variable of a document isn't UTF-8.
+/// Makes the calls for a row and adds their answers. Returns `false` if the source is a document and a value
+/// isn't UTF-8.
 fn call(row: &Row<'_>, ways: &mut Ways) -> Result<bool, AllocError> {
     let source = row.source.as_slice();
     match (row.kind, texts(ways.alloc, &row.values)?) {

@@ -92,7 +92,8 @@ impl Ways {
     }
 
     /// Adds the call `name`, which appended to an output, and its answer. The output was `BEFORE` before the
-    /// call, and is `output` after it. If the call failed, `output` must equal `BEFORE`.
+    /// call, and is `output` after it. If the call failed and `output` isn't `BEFORE`, the answer is
+    /// `Breaks`.
     pub fn added(
         &mut self,
         name: &'static str,

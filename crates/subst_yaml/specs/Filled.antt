@@ -1,4 +1,4 @@
--- Texts of YAML whose values are filled in where they are. `ask` relates a string to its answers.
+-- YAML texts with their values filled in directly in the text. `ask` relates a string to its answers.
 use Rattle.std.specs.Prelude.{◌≡◌, ◌⊎◌, ℕ, ◌==◌, ◌+◌, ◌-◌, ◌&&◌, ◌||◌, Bool, false, true, not, nat_lt, List, [], ◌∷◌, ◌++◌, drop, take, length, if◌then◌else◌, slice_range, Option, Some, None, option_and_then}
 use Rattle.std.specs.Str.{is_utf8}
 use Rattle.std.specs.List.{list_any}
@@ -89,7 +89,7 @@ end_of i _ = i
 abbrev pub is_sign : ℕ → Bool
 is_sign b = b == 43 || b == 45 || (nat_lt 47 b && nat_lt b 58)
 
--- the text from its first byte on that is neither a digit nor a sign
+-- the text without the leading bytes for which `is_sign` holds: digits and signs
 unfoldable pub after_signs : List ℕ → List ℕ
 after_signs [] = []
 after_signs (b ∷ rest) = elim (is_sign b) [ true ↦ after_signs rest | false ↦ b ∷ rest ]
@@ -103,7 +103,8 @@ after_line (b ∷ rest) = elim (b == 10) [ true ↦ rest | false ↦ after_line 
 abbrev pub line_of : List ℕ → List ℕ
 line_of text = take (length text - length (after_line text)) text
 
--- the rest of a token's first line, after `|` or `>`, digits and signs: a comment and the line end
+-- the rest of a token's first line, after `|` or `>` and any digits and signs: a comment, if any, and the
+-- line end
 abbrev pub header_rest : (token : List ℕ) → List ℕ
 header_rest token = line_of (after_signs (drop 1 token))
 
@@ -134,7 +135,7 @@ IsFilledValue ask style indent token other_style other_indent other =
     ⊎ ((y : List ℕ) × Changes ask style indent token y × (string_of other_style other_indent other ≡ Some y))
 
 -- An event of `source` is filled in as the event f of `output`. A value becomes a value, changed or
--- unchanged. A key becomes one with the same bytes and style, and any other event an equal one.
+-- unchanged. A key becomes a key with the same bytes and style, and any other event becomes an equal event.
 abbrev pub IsFilledEvent : (ask : List ℕ → Answer → Type 0) → (source output : List ℕ) → Event → Event
     → Type 0
 IsFilledEvent ask source output (Value style span in_flow indent) f =
@@ -147,10 +148,10 @@ IsFilledEvent ask source output (FlowKey style span) f =
     (other : Span) × (f ≡ FlowKey style other) × (token_at output other ≡ token_at source span)
 IsFilledEvent ask source output e f = f ≡ e
 
--- The events of `source`, the first list, are filled in one by one as those of `output`, the second list.
--- From position i of `source` and position j of `output` on, all bytes outside of the events' tokens are
--- equal, with one exception. If a value has `|` or `>` only in `source`, the comment and line end of its
--- header follow its token in `output`.
+-- The events of `source`, in the first list, are filled in one by one as the events of `output`, in the
+-- second list. From position i of `source` and position j of `output` on, all bytes outside of the events'
+-- tokens are equal, with one exception. If a value has `|` or `>` only in `source`, the comment and line end
+-- of its header follow its token in `output`.
 abbrev pub AreFilled : (ask : List ℕ → Answer → Type 0) → (source output : List ℕ) → (i j : ℕ) → List Event
     → List Event → Type 0
 AreFilled ask source output i j [] fs = (fs ≡ []) × (drop j output ≡ drop i source)

@@ -34,7 +34,7 @@ pub record FillsIn (ask : List ℕ → Answer → Type 0) (source : List ℕ)
     (result : Result (Option (String Global)) Error) : Type 0 where
   pub output : IfOk result (λ output. IfSome output
       (λ output. IsFilledDocument ask source (string_bytes output)))
-  -- `None` is returned only if some string changes
+  -- `None`, for an output that isn't confirmed, is returned only if some string changes
   pub unconfirmed : IfOk result (λ output. IfNone output
       (ReadsAs source (λ es. SomeChanges (GivesBy ask) (strings_in source es))))
   pub yaml : IfYaml result (Holds source)

@@ -43,7 +43,7 @@ spelled_at text (Value style span in_flow indent) =
     map (λ x. record { text = x; span = range_in text span }) (strings_of style indent (token_at text span))
 spelled_at text _ = []
 
--- the strings of the values that may change, in the order of the text, each with the range of its token
+-- the strings of the values that may change, in the order of the events, each with the range of its token
 abbrev pub spelled_in : (text : List ℕ) → List Event → List Spelled
 spelled_in text [] = []
 spelled_in text (e ∷ es) = spelled_at text e ++ spelled_in text es
@@ -80,8 +80,8 @@ abbrev pub Leads : (source : List ℕ) → Path → (x : List ℕ) → Type 0
 Leads source path x = ReadsAs source (λ es. (span : Range ℕ)
     × Contains (found_in source start es) (record { text = x; span = span; path = path }))
 
--- The list has all strings of the values that may change, in the order of the text, each with the span of its
--- token.
+-- The list has all strings of the values that may change, in their order in `source`, each with the span of
+-- its token.
 pub record IsListing (source : List ℕ) (list : List StringAt) : Type 0 where
   pub all : ReadsAs source (λ es. map text_at list ≡ strings_in source es)
   -- each string in the list has the span of its token

@@ -29,7 +29,7 @@ abbrev pub step_text : (dot : List ℕ) → PathStep → List ℕ
 step_text dot (Key key) = dot ++ key
 step_text dot (Index i) = codes "[" ++ (decimal i ++ codes "]")
 
--- the displayed texts of steps, concatenated, with no dot before the first one
+-- the displayed texts of steps, concatenated, with a dot before each key except in the first step
 abbrev pub steps_text : List PathStep → List ℕ
 steps_text [] = []
 steps_text (first ∷ steps) = step_text [] first ++ flat_map (step_text (codes ".")) steps
@@ -43,7 +43,7 @@ colon_before (first ∷ steps) = codes ":"
 abbrev pub document_text : ℕ → List PathStep → List ℕ
 document_text n steps = if nat_lt 1 n then decimal n ++ colon_before steps else []
 
--- the text of a path
+-- the displayed text of a path
 abbrev pub path_text : Path → List ℕ
 path_text path = document_text path.document path.steps ++ steps_text path.steps
 
@@ -105,8 +105,8 @@ past None trail = trail
 abbrev pub went_on : Trail → Trail
 went_on trail = past (last_step trail) trail
 
--- The first step in a collection in brackets. In a mapping, it leads to a key at an empty span, which the
--- first key replaces.
+-- The first step in a collection in brackets. In a mapping or a pair, this step has an empty span, and the
+-- step of the first key replaces it.
 abbrev pub first_step : Bracket → StepAt
 first_step Sequence = step.Member 0
 first_step Mapping = step.Key (record { start = 0; «end» = 0 })
@@ -128,7 +128,7 @@ abbrev pub or_none : Option (List ℕ) → List ℕ
 or_none None = []
 or_none (Some key) = key
 
--- the key at a span of `text`, as it is written
+-- the key at a span of `text`, as it is written, or no bytes if it isn't UTF-8
 abbrev pub key_at : (text : List ℕ) → Span → List ℕ
 key_at text span = or_none (text_of (token_at text span))
 

@@ -12,7 +12,7 @@ use Rattle.subst_yaml.specs.Filled.{string_of}
 use Rattle.subst_yaml.specs.Outcome.{ReadsAs}
 use Rattle.subst_yaml.specs.declared.places.RangeFinder.{RangeFinder}
 
--- a byte that isn't in UTF-8
+-- a byte that never occurs in UTF-8
 abbrev pub sentinel : ℕ
 sentinel = 255
 
@@ -36,8 +36,8 @@ AreInOrder from (range ∷ ranges) to =
 abbrev pub is_white : ℕ → Bool
 is_white b = b == 32 || b == 9 || b == 10
 
--- The range `short` of the string x is `range`, perhaps shortened by white space at its end, since a line may
--- end there.
+-- The range `short` of the string x is `range`, perhaps shortened by white space at its end. A line break in
+-- the token can spell such white space.
 pub record IsShortened (x : List ℕ) (range short : Range ℕ) : Type 0 where
   pub start : short.start ≡ range.start
   pub before : short.end ≤ range.end
@@ -56,7 +56,7 @@ value_at token style in_flow indent =
 -- `token` is the range of a value's token in the text s, and the `places` spell the `ranges` of the value's
 -- string. With sentinels at both ends of each place, the token is read as the string with sentinels at both
 -- ends of each range in `short`. The ranges in `short` are the `ranges`, each perhaps shortened by white
--- space at its end, since a line may end there.
+-- space at its end. A line break in the token can spell such white space.
 pub record ArePlacesIn (s : List ℕ) (token : Range ℕ) (ranges places : List (Range ℕ)) : Type 0 where
   pub style : Style
   pub in_flow : Bool

@@ -22,7 +22,7 @@ pub(crate) struct Texts<'t> {
     pub(crate) output: &'t [u8],
 }
 
-/// The offsets in two texts up to which they are compared.
+/// The offsets up to which a source and its output have been compared.
 #[derive(Clone, Copy)]
 pub(crate) struct Positions {
     pub(crate) source: usize,
@@ -74,8 +74,8 @@ fn is_unblocked(style: Style, other: Style) -> bool
 }
 
 /// Returns the bytes that must directly follow the token of `other` in the output. If both events are values,
-/// and only `event` is after `|` or `>`, these bytes are the comment and line end of its header. Otherwise
-/// there are none.
+/// and only `event` has the style `|` or `>`, these bytes are the comment and line end of its header.
+/// Otherwise there are none.
 fn rest_of_value(source: &[u8], event: Event, other: Event) -> &[u8]
     ensures { result.now ≡ rest_of_value source.now event other }
 {
@@ -245,8 +245,9 @@ fn is_filled_event<F: Fill>(
     }
 }
 
-/// Returns the positions after two events, if `other` is `event` filled in and the bytes from `at` to both
-/// tokens are equal. Otherwise returns `None`.
+/// Returns the positions after two events, or `None` if they don't match. They match if `other` is `event`
+/// filled in, and the bytes from `at` to both tokens are equal. The bytes of `rest_of_value` also have to
+/// follow the token in the output.
 ///
 /// # Errors
 ///

@@ -1,7 +1,7 @@
 -- Clauses that many calls share, about a source's value, an error's fault, or a list. Three functions
--- describe a map. `items v` is the bytes of a value v. `see v` is v as contracts see it: for a reference, the
--- value that it points to. `look_up name` is `see` of the value under `name`, or `None`. `fault_of e` is the
--- fault that an error e states.
+-- describe a map: `items`, `see` and `look_up`. `items v` is the bytes of a value v. `see v` is v as
+-- contracts see it: for a reference, the value that it points to. `look_up name` is `see` of the value under
+-- `name`, or `None`. `fault_of e` is the fault that an error e states.
 use Rattle.std.specs.Prelude.{◌≡◌, ◌≤◌, ◌<◌, ◌+◌, ℕ, List, length, map, Option, Some, Result, Vec, IfErr, IfNone, IfOk, IfSome}
 use Rattle.std.specs.List.{All, Contains}
 use Rattle.std.specs.declared.ops.Range.{Range}
@@ -46,7 +46,7 @@ abbrev pub OverflowsParsed : {T : Type 0} → (capacity len : ℕ) → Result T 
 OverflowsParsed capacity len result x =
     IfRefused result (λ e. Unit {0}) (λ e. IfNone (expand_into_fault e) (capacity < len + length x))
 
--- if the parse runs out of memory, the source s has a colon, as each default does
+-- if the parse runs out of memory, the source s has a colon, as each placeholder with a default does
 abbrev pub NeedsMemory : {T : Type 0} → List ℕ → Result T SubstituteIntoError → Type 0
 NeedsMemory s result = IfRefused result (λ e. IfNone (parse_fault e) (Contains s colon)) (λ e. Unit {0})
 

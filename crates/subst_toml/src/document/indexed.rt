@@ -15,7 +15,7 @@ use std::alloc::{AllocError, Global};
 use subst_document::{PathStep, Paths, Plain, RefusalAt, StringAt, with_plain};
 use toml::Value;
 
-/// Values that replace each string by its index.
+/// The replacement for each string: its index in single quotes.
 #[derive(Clone, Copy)]
 struct Indices;
 
@@ -28,8 +28,7 @@ impl Plain for Indices {
     }
 }
 
-/// The paths to the strings of a document. They are found in a copy of the document that has indices instead
-/// of strings.
+/// The paths to the strings of a document. They are found in a copy that has indices in place of the strings.
 #[derive(Clone, Copy)]
 pub(crate) struct TomlPaths<'t> {
     pub(crate) source: &'t str,

@@ -11,9 +11,9 @@ use subst_document::Part;
 use toml_parser::bytes::is_non_eol;
 use toml_parser::text::{first, starts_newline};
 
-/// Returns whether a value fits into a token's kind of string. An empty value doesn't fit, since a line
-/// continuation before it would also leave out white space after it. In single quotes, a value with a single
-/// quote or a control character other than a tab doesn't fit either.
+/// Returns whether a value fits into a token's kind of string. An empty value doesn't fit: a line
+/// continuation before the value would also leave out the white space after the value. In single quotes, a
+/// value with a single quote or a control character other than a tab doesn't fit either.
 pub(super) fn fits(token: &str, value: &str) -> bool
     ensures { result ≡ kinds.fits token.now value.now }
 {
@@ -76,8 +76,8 @@ fn has_three_quotes(token: &str) -> bool {
     quotes(token).is_some_and(|quotes| quotes.len() == 3)
 }
 
-/// Returns whether a string in single quotes may contain each byte of `value`. In a multi-line string single
-/// quotes are allowed, and so are line feeds unless `has_crlf`.
+/// Returns whether a string in single quotes may contain each byte of `value`. Single quotes are allowed in a
+/// multi-line string, and so are line feeds unless `has_crlf`.
 fn is_raw(value: &str, is_multi_line: bool, has_crlf: bool) -> bool {
     value.as_bytes().iter().all(|byte| match byte {
         b'\n' => is_multi_line && !has_crlf,
@@ -87,14 +87,15 @@ fn is_raw(value: &str, is_multi_line: bool, has_crlf: bool) -> bool {
 }
 
 /// Returns whether a text ends in a line continuation: a backslash at a line's end, and the white space after
-/// it. White space at the start of a value would extend the continuation.
+/// it. White space at the start of a value that follows would extend the continuation.
 fn ends_in_continuation(text: &str) -> bool {
     let before = text.trim_end();
     let blanks = text.get(before.len()..).unwrap_or("");
     before.ends_with('\\') && blanks.contains('\n')
 }
 
-/// Appends the first character of a value, escaped, if it is a space or a line feed. Returns the rest.
+/// Appends the first character of a value, escaped, if it is a space or a line feed. Returns the part of the
+/// value that isn't appended.
 fn write_blank<'v>(value: &'v str, output: &mut String) -> Result<&'v str, AllocError>
     ensures { OnOk result ((spelled : List ℕ)
         × (string_bytes output.new ≡ string_bytes output.old ++ spelled)) }
@@ -155,7 +156,7 @@ fn write_char(c: char, output: &mut String) -> Result<(), AllocError>
     }
 }
 
-/// Appends `escape`, the beginning of an escape, and then the last hex digit of the code of `c`.
+/// Appends an escape: its beginning `escape`, and then the last hex digit of the code of `c`.
 fn write_code(escape: &str, c: char, output: &mut String) -> Result<(), AllocError>
     ensures { OnOk result ((spelled : List ℕ)
         × (string_bytes output.new ≡ string_bytes output.old ++ spelled)) }

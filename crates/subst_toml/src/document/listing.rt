@@ -26,8 +26,8 @@ pub type RefusalAt = subst_document::RefusalAt<Path>;
 /// Lists the string values of a TOML document, in order, each with the byte range that spells it. Keys aren't
 /// listed.
 ///
-/// The result is `None` if a string isn't found, or if its range doesn't spell it; no document is known for
-/// which that happens.
+/// The result is `None` if a string isn't found, or if a range doesn't spell its string. No document is known
+/// for which this happens.
 ///
 /// # Errors
 ///
@@ -49,8 +49,8 @@ pub fn strings(alloc: Global, source: &str) -> Result<Option<Vec<StringAt>>, Err
 /// Lists in document order the strings of `source`, a TOML document, that are refused when filled in from
 /// `variables`.
 ///
-/// The result is `None` if a string isn't found by its path or its range; no document is known for which that
-/// happens.
+/// The result is `None` if a string isn't found, if a path doesn't lead to its string, or if a range doesn't
+/// spell it. No document is known for which this happens.
 ///
 /// # Errors
 ///

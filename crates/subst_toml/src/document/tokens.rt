@@ -65,7 +65,7 @@ fn all_strings(alloc: Global, source: &str) -> Result<Vec<StringAt>, ParseError>
 }
 
 impl Scanner {
-    /// Reads the next part of the document, with which `text` begins, and returns the text after it. With no
+    /// Reads the part of the document at the start of `text`, and returns the text after the part. With no
     /// bracket open, the part is a header, or a key and its value. Otherwise it is read as by
     /// [`Scanner::item`] or [`Scanner::member`].
     fn step<'s>(&mut self, alloc: Global, text: &'s str) -> Result<&'s str, ParseError>
@@ -124,8 +124,8 @@ impl Scanner {
         skip(text, 1)
     }
 
-    /// Reads a key and its value, and returns the text after both. The value is read as by
-    /// [`Scanner::value`].
+    /// Reads a key and its value, and returns the rest of the text. Of an array or inline table, only the
+    /// opening bracket is read.
     fn pair<'s>(&mut self, alloc: Global, text: &'s str) -> Result<&'s str, ParseError>
         ensures reads { IfOk result (λ rest. spec.pair (scanner_of self.old) text.now
             ≡ Some (scanner_of self.new, rest.now)) }

@@ -6,7 +6,7 @@ ghost use Rattle.std.specs.Prelude.{◌<◌, ◌≤◌, IfSome, length};
 use std::ops::Range;
 use toml_parser::text::{first, skip, skip_blank, skip_ws, starts_newline};
 
-/// The first piece of the rest of a token.
+/// A piece of a token, and the text after it.
 #[derive(Clone, Copy, Drop)]
 struct Piece<'s> {
     /// The number of bytes of the string that the piece spells, which may be 0.

@@ -115,7 +115,7 @@ pub fn layered<V: AsSlice<u8>>(
     any_map::filled_in(alloc, source, &layers)
 }
 
-/// Expands bytes with the pairs of an `Env`, with empty values as unset.
+/// Expands bytes with the pairs of an `Env`, and treats empty values as unset.
 pub fn no_empty(alloc: Global, source: &[u8], variables: &Env) -> Result<Vec<u8>, Error>
     ensures { IfSome (answer_of (λ output. output.items) result)
         (Answers source.now (without_empty (first_value variables.now))) }

@@ -126,7 +126,7 @@ pub fn layered<V: AsStr>(
     substitute(alloc, source, &layers)
 }
 
-/// Expands a text with the pairs of an `Env`, with empty values as unset.
+/// Expands a text with the pairs of an `Env`, and treats empty values as unset.
 pub fn no_empty(alloc: Global, source: &str, variables: &Env) -> Result<String, Error>
     ensures { IfSome (answer_of (λ output. string_bytes output) result)
         (Answers source.now (without_empty (first_value variables.now))) }
