@@ -33,8 +33,8 @@ AreReports file missing s text = (reports : List (List ℕ))
     × (map (λ v. report_of file (Some (NoSuchVariable v.position v.name)) s) missing ≡ map Some reports)
     × (text ≡ concat reports)
 
--- the outcome is the output of the source s, the report of the fault of s, or the reports of all missing
--- variables of s, concatenated
+-- the outcome is the output of the source s, the report of its fault, or the concatenated reports of all its
+-- missing variables
 abbrev pub IsWholeOutcome : LookUp → List ℕ → List ℕ → Outcome → Type 0
 IsWholeOutcome look file s (Output output) = Answers s look (Gives (string_bytes output))
 IsWholeOutcome look file s (Report text) =
