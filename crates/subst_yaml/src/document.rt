@@ -1,4 +1,4 @@
-//! Fills in the values of a text in place, and keeps every other byte.
+//! Fills in the values of a text in place, and keeps all other bytes.
 
 ghost use Rattle.std.specs.Prelude.{◌≡◌, IfOk, IfSome, string_bytes};
 ghost use Rattle.subst_language.specs.Calls.Clauses.{AnswersText};
@@ -17,10 +17,10 @@ use subst_document::{Fill, Filler};
 use subst_language::VariableMap;
 use subst_yaml_reader::Span;
 
-/// Returns a text of YAML with its values filled in from `variables`, whose values are texts. Every other
-/// byte is kept: white space, comments, keys, tags, anchors and aliases, and each value that doesn't change.
-/// A value that changes keeps its style if the new value fits, and is otherwise put in double quotes. A value
-/// over several lines keeps its lines if each can be filled in by itself.
+/// Returns a text of YAML with its values filled in from `variables`, whose values are texts. All other bytes
+/// are kept: white space, comments, keys, tags, anchors and aliases, and each value that doesn't change. A
+/// value that changes keeps its style if the new value fits that style, and is otherwise put in double
+/// quotes. A value that spans several lines keeps its lines if each can be filled in by itself.
 ///
 /// ```rust
 /// let source = "port: ${PORT:8080} # of the service\nmotto: '${MOTTO:it is: \"x\"}'\n";
@@ -31,7 +31,7 @@ use subst_yaml_reader::Span;
 /// Without quotes, YAML decides the type of a value: `port: $PORT` is a number if `$PORT` is `8080`, and
 /// `port: "$PORT"` is a string.
 ///
-/// A token without `$` and `\` isn't decoded, since its string is unchanged.
+/// A token that contains neither `$` nor `\` isn't decoded, since its string is unchanged.
 ///
 /// If a value changes, the output is read again and compared with the source. The result is `None` if the
 /// comparison fails; no text is known for which that happens.

@@ -1,4 +1,4 @@
-//! Laws of the definitions that the contracts cite, each as the contract of a function that does nothing.
+//! Laws of the definitions that the contracts cite. Each law is the contract of a function that does nothing.
 
 ghost use Rattle.std.specs.Prelude.{◌≡◌, ℕ, List};
 ghost use Rattle.subst_yaml_reader.specs.declared.event.Event.{Event};

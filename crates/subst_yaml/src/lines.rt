@@ -1,4 +1,5 @@
-//! Spells values over several lines. Such a value keeps its lines if each line can be filled in by itself.
+//! Spells values whose old tokens have several lines. Such a value keeps its lines if each line can be filled
+//! in by itself.
 //!
 //! No contract states how tokens are spelled. A token that is filled in line by line is used only if it is
 //! read as the value. The output is also compared with the source.
@@ -15,8 +16,8 @@ use subst_document::Fill;
 use subst_error::Error;
 use subst_yaml_reader::Style;
 
-/// Returns a new token for `value`: the old token at `place` with each line filled in, provided that it fits
-/// and is read as `value`. Otherwise returns `value` spelled as a whole.
+/// Returns a new token for `value`. It is the old token at `place` with each line filled in, if that is
+/// allowed there and is read as `value`. Otherwise it is `value` spelled as a whole.
 ///
 /// # Errors
 ///
@@ -62,7 +63,8 @@ fn has_mark(token: &[u8]) -> bool {
     }
 }
 
-/// Returns whether `value` may be spelled by `token`, which has several lines and the style of `place`.
+/// Returns whether `place` allows `token` as a spelling of `value`. `token` has the style of `place` and
+/// several lines.
 fn fits_lines(place: Place<'_>, value: &str, token: &[u8]) -> bool {
     match place.style {
         Style::Plain => {
@@ -92,7 +94,8 @@ fn filled_by_lines<F: Fill>(
     }
 }
 
-/// Returns the change of `words` in a line, or `None` if `filler` refuses `words`.
+/// Returns the change of the text `words` of a line when it is filled in by itself, or `None` if `filler`
+/// refuses it.
 fn change_in_line<F: Fill>(
     alloc: Global,
     style: Style,
@@ -110,8 +113,8 @@ fn change_in_line<F: Fill>(
     }
 }
 
-/// Returns the token at `place`, quoted or not, with each line filled in. Returns `None` if a line can't be
-/// filled in by itself, or if the token isn't UTF-8 or lacks a quote.
+/// Returns the quoted or unquoted token at `place` with each line filled in. Returns `None` if a line can't
+/// be filled in by itself, if the token isn't UTF-8, or if a quoted token lacks a quote.
 fn filled_words<F: Fill>(
     alloc: Global,
     place: Place<'_>,

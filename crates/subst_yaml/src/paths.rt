@@ -31,8 +31,8 @@ pub(crate) struct Trail {
     steps: Vec<StepAt>,
 }
 
-/// Returns the index of the item after that of `last`, or 0 if `last` isn't a step to an item of a sequence
-/// without brackets.
+/// Returns the index of the next item of a sequence without brackets. It is one more than the index in
+/// `last`, or 0 if `last` isn't a step to such an item.
 fn next_index(last: Option<StepAt>) -> Result<usize, AllocError>
     ensures { IfOk result (λ index. index ≡ next_index last) }
 {
@@ -129,7 +129,7 @@ impl Trail {
         Ok(())
     }
 
-    /// Replaces the steps from a depth on by one step. The first step has depth 1.
+    /// Replaces all steps from `depth` on with `step`. The first step has depth 1.
     fn step(&mut self, depth: usize, step: StepAt) -> Result<(), AllocError>
         ensures { IfOk result (λ _. trail_of self.new ≡ stepped depth step (trail_of self.old)) }
     {

@@ -127,8 +127,9 @@ impl RangeFinder {
     }
 }
 
-/// Returns the value whose token is at a range, and the index of its event, or `None` if there is no such
-/// value. The search begins at the index `from`. If it finds nothing, it is repeated from the first event.
+/// Finds the value whose token is at a range. Returns the index of the value's event, and the value's style
+/// and indentation, or `None` if there is no such value. The search begins at the index `from`. If it finds
+/// nothing, it is repeated from the first event.
 fn find_scalar(events: &[Event], from: usize, token: &Range<usize>) -> Option<(usize, Scalar)>
     ensures { IfSome result (λ found. (in_flow : Bool)
         × Contains events.now (value_at token.now found.1.style in_flow found.1.indent)) }
@@ -226,15 +227,15 @@ fn is_white(byte: u8) -> bool
     byte == b' ' || byte == b'\t' || byte == b'\n'
 }
 
-/// Returns whether all bytes are blanks and line feeds.
+/// Returns whether each byte is a blank or a line feed.
 fn is_white_space(bytes: &[u8]) -> bool
     ensures { result ≡ list_all is_white bytes.now }
 {
     bytes.iter().all(|byte| is_white(*byte))
 }
 
-/// Returns whether `short` is `range`, or `range` with white space cut off at its end. `range` also has to be
-/// in the string.
+/// Returns whether `short` is `range`, or `range` with white space cut off at its end. Returns `false` if
+/// `range` ends past the string's end.
 fn is_shortened(string: &[u8], range: &Range<usize>, short: &Range<usize>) -> bool
     ensures { IsTrue result → IsShortened string.now range.now short.now }
 {
@@ -324,8 +325,8 @@ fn with_sentinels(
     }
 }
 
-/// Returns whether the spans in `found` spell their ranges. The token, with `SENTINEL` at both ends of each
-/// span, has to be read as `string` with `SENTINEL` at both ends of each range.
+/// Returns whether the spans in `found` spell their ranges. They do if the token, with `SENTINEL` at both
+/// ends of each span, is read as `string` with `SENTINEL` at both ends of each range.
 ///
 /// # Errors
 ///
@@ -364,7 +365,7 @@ fn is_confirmed(
 /// `source` is a text of YAML. `token` is the byte range in `source` of the string's token with its quotes,
 /// as [`strings`](crate::strings) returns it. `range` is in byte offsets of the string. The result begins
 /// where the first character of the range is spelled, after the indentation of the line, and ends after the
-/// last character. If `range` ends in a line break, the result ends where the line does.
+/// last character. If a line break spells the end of `range`, the result ends before the line break.
 ///
 /// The result is `None` if no value's token is at `token`, or if the range:
 ///

@@ -25,8 +25,8 @@ use subst_yaml_reader::Span;
 /// If a string is refused, every refused string is reported, in the order of the strings in `source`. The
 /// report of each is a line `FILE:LINE:COLUMN: PATH: fault`, and the underlined line of the text if
 /// `error::underline` of `subst` returns one. If the reader refuses the text, its message is reported in the
-/// same form, without a path. If the check of a fault's place fails, the fault is reported as `FILE: PATH:
-/// fault`; no text is known for which that happens.
+/// same form, without a path. A fault whose position isn't confirmed is reported as `FILE: PATH: fault`. No
+/// text is known for which a position isn't confirmed.
 ///
 /// ```text
 /// web.yaml:1:8: user: ..
@@ -47,7 +47,7 @@ pub fn report<'a, M: VariableMap<'a>>(
 where
     M::Value: AsStr + Drop,
 
-    // The text reports each refused string, or the reader's message.
+    // The returned text reports each refused string, or the reader's message.
     ensures report { IfOk result (λ text.
         Reports (AnswersText M.Value.text M.see (M.look_up variables.now)) file.now source.now
         e.now (string_bytes text)) }

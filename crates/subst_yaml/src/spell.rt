@@ -231,7 +231,8 @@ fn last_digit(number: u32) -> u8 {
     }
 }
 
-/// Appends the escape of a character, `\xXX` or `\uXXXX`, from its number, which is below 65,536.
+/// Appends the escape, `\xXX` or `\uXXXX`, of the character with the code point `number`, which is below
+/// 65,536.
 ///
 /// # Errors
 ///

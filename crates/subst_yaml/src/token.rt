@@ -1,4 +1,4 @@
-//! Tokens of a text, and whether their values may change.
+//! Tokens of a text, and whether filling in the text can change their values.
 
 ghost use Rattle.std.specs.Prelude.{◌≡◌, slice_range};
 ghost use Rattle.std.specs.List.{list_any};
@@ -43,7 +43,8 @@ fn has_mark(token: &[u8]) -> bool
     token.iter().any(|byte| is_mark(*byte))
 }
 
-/// Returns whether the value of a token may change.
+/// Returns whether the value of a token may change: whether the token contains a dollar or a backslash, and
+/// isn't an alias.
 #[tactic(auto, unfolding(crate::specs::Filled::may_change))]
 pub(crate) fn may_change(style: Style, token: &[u8]) -> bool
     ensures { result ≡ may_change style token.now }
@@ -58,7 +59,7 @@ fn is_sign(byte: u8) -> bool
     byte == b'+' || byte == b'-' || byte > b'/' && byte < b':'
 }
 
-/// Returns a text without the digits and signs at its start.
+/// Returns a text without the leading bytes for which `is_sign` returns `true`: digits and signs.
 #[tactic(auto, unfolding(crate::specs::Filled::after_signs))]
 fn after_signs(text: &[u8]) -> &[u8]
     ensures { result.now ≡ after_signs text.now }
@@ -73,7 +74,7 @@ fn after_signs(text: &[u8]) -> &[u8]
     rest
 }
 
-/// Returns a text after its first line.
+/// Returns the rest of a text after its first line.
 #[tactic(auto, unfolding(crate::specs::Filled::after_line))]
 fn after_line(text: &[u8]) -> &[u8]
     ensures { result.now ≡ after_line text.now }

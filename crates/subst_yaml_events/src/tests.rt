@@ -1,5 +1,5 @@
 //! Tests of texts and their events, and of texts that are refused, with the reasons. If libyaml reads a text
-//! too, its events are the same.
+//! too, libyaml's events are the same.
 
 use std::alloc::{AllocError, AllocGlobal, Global};
 use std::process::Abort;
@@ -84,7 +84,7 @@ const SCALARS: [Row<'static>; 12] = [
     ),
 ];
 
-/// Documents, their marks and comments.
+/// Documents with their marks, `---` and `...`, and with directives and comments.
 const DOCUMENTS: [Row<'static>; 10] = [
     ("", ""),
     ("# c\n\n", ""),
@@ -114,7 +114,7 @@ const PROPERTIES: [Row<'static>; 6] = [
     ("&a\n&b c: d", "doc k1:6-7 v:9-10"),
 ];
 
-/// Characters, line ends and tabs.
+/// Characters of several bytes, `\r\n` as a line end, and tabs.
 const CHARACTERS: [Row<'static>; 3] = [
     ("é: € 😀", "doc k1:0-2 v:4-12"),
     (
@@ -427,7 +427,7 @@ fn sketch(alloc: Global, event: &Event) -> Result<String, AllocError> {
     }
 }
 
-/// Checks that the events of a text are those of a row.
+/// Checks that the events of a text are `want`, written as in a `Row`.
 fn expect(rt: &impl Testing, source: &str, want: &str) -> Result<(), Fail> {
     let events = read(rt.alloc(), source)?;
     let mut sketches = String::new(rt.alloc());

@@ -19,7 +19,7 @@ pub(crate) struct Chosen<'r, 't> {
     pub(crate) values: &'r BTreeMap<&'t str, String>,
 }
 
-/// Creates a fixed error for refused texts, whatever is wrong with them.
+/// Creates the same error for every refused text, whatever is wrong with the text.
 fn refused() -> Error
     ensures { error_fault result ≡ Some (faults.MissingVariableName 0 0) }
 {

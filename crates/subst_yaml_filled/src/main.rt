@@ -1,4 +1,4 @@
-//! Prints texts of YAML with their values filled in: `subst_yaml_filled FILE..`.
+//! Prints texts of YAML with their variables filled in: `subst_yaml_filled FILE..`.
 //!
 //! A file has documents. Before each document come a line about it and a line for each of its variables. The
 //! first line has the document's length in bytes, the syntax of its variables, and their number. The syntax

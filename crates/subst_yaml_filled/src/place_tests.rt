@@ -57,7 +57,7 @@ const FAULTS: [(&'static str, &'static str); 40] = [
     ("a: $\nb: 'c $'\n", "1:4=$ 2:7=$"),
 ];
 
-/// Returns the position of each refused string's fault, with the text there.
+/// Returns the line and the column of each refused string's fault, with the text there.
 fn faults(rt: &impl Testing, source: &str) -> Result<String, AllocError> {
     let variables: BTreeMap<&str, &str> = BTreeMap::new(rt.alloc());
     let mut shown = String::new(rt.alloc());

@@ -1,4 +1,4 @@
-//! Printing of a document's output.
+//! The text that is printed for a document.
 
 use crate::cases::{Document, Written};
 use crate::chosen::Chosen;

@@ -14,7 +14,7 @@ impl<R: Abort + AllocGlobal> Testing for R {}
 /// A text, the value of `$X`, and the output.
 type Row<'t> = (&'t str, &'t str, &'t str);
 
-/// Values without quotes.
+/// Sources with an unquoted value.
 const PLAIN: [Row<'static>; 46] = [
     ("a: $X", "8080", "a: 8080"),
     ("a: $X", "-x", "a: -x"),
@@ -64,7 +64,7 @@ const PLAIN: [Row<'static>; 46] = [
     ("- '$A'\n- $X # $X", "y", "- '$A'\n- y # $X"),
 ];
 
-/// Values in quotes.
+/// Sources with a value in quotes.
 const QUOTED: [Row<'static>; 12] = [
     ("a: '$X'", "it's", "a: 'it''s'"),
     ("a: 'it''s $X'", "#", "a: 'it''s #'"),
@@ -105,7 +105,7 @@ const LINES: [Row<'static>; 17] = [
     ),
 ];
 
-/// Values over several lines, without quotes and in quotes.
+/// Sources with a value over several lines, unquoted or in quotes.
 const OVER_LINES: [Row<'static>; 29] = [
     ("a: $X b\n   c", "x", "a: x b\n   c"),
     ("a: b\n\n  # c $X\n", "x", "a: b\n\n  # c $X\n"),

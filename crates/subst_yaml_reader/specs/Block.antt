@@ -19,8 +19,8 @@ use Rattle.subst_yaml_reader.specs.declared.reader.Next.{Next}
 use Rattle.subst_yaml_reader.specs.declared.reader.Next.TheVariants as next
 use Rattle.subst_yaml_reader.specs.declared.scalar.Properties.{Properties}
 
--- the result of a turn: the state after it, and the text from the next token on, or `None` if the text is
--- refused
+-- the result of a turn, which reads one token: the state after the turn, and the text from the next token on,
+-- or `None` if the text is refused
 abbrev pub Turn : Type 0
 Turn = Option (State × List ℕ)
 
@@ -68,9 +68,10 @@ open_bracket properties b s rest = do
   both ← joined s.pending properties
   after_token rest (with_next next.Member (opened (bracket_of b) s))
 
--- The column of the lines of a block scalar in a collection at `column`. It is the sum of `column` and the
--- header's `digit`. If `digit` is 0, it is `spaces`, but at least `column` + 1. `spaces` is the number of
--- spaces at the start of the first line that isn't empty. A sum over 2^64 - 1 is replaced by 2^64 - 1.
+-- The column of the lines of a block scalar in a collection at `column`. If the header's `digit` isn't 0, the
+-- lines are at `column` + `digit`. Otherwise they are at `spaces`, but at least at `column` + 1. `spaces` is
+-- the number of spaces at the start of the first line that isn't empty. A sum above 2^64 - 1 is replaced by
+-- 2^64 - 1.
 abbrev pub block_indent : (column digit spaces : ℕ) → ℕ
 block_indent column digit spaces =
     if nat_lt 0 digit then min (column + digit) (2 ^ 64 - 1) else max (min (column + 1) (2 ^ 64 - 1)) spaces
@@ -238,7 +239,8 @@ abbrev pub may_open : (column : ℕ) → (is_item : Bool) → State → Bool
 may_open column is_item s = is_value s.next
     && (is_past (outer_column s) column || (is_item && is_mapping_at column (innermost s.blocks)))
 
--- a turn at a token that begins a collection if one may open there, and is an entry of an open one otherwise
+-- a turn at a token at `column`: at the start of a value if `may_open` allows one there, and otherwise at an
+-- entry of an open collection
 unfoldable pub line_turn : (column : ℕ) → State → List ℕ → Turn
 line_turn column s text =
     if not (may_open column (is_mark hyphen text) s)
@@ -246,7 +248,7 @@ line_turn column s text =
     else if is_mark hyphen text then item (push_block Sequence column s) text
     else node (Open column) s text
 
--- a turn at a token as for `line_turn`; the first document also begins there if it has no `---`
+-- a turn at a token as for `line_turn`; if no document has begun yet, the first one begins at this token
 unfoldable pub fresh_turn : (column : ℕ) → State → List ℕ → Turn
 fresh_turn column s text = elim s.next [
   | next.Start ↦ line_turn column (with_next next.Value (emit Document s)) text

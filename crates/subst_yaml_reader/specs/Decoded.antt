@@ -17,7 +17,8 @@ abbrev pub piece_of : ℕ → Piece
 piece_of b = if is_blank b || is_line_end b then piece.White b else piece.Byte b
 
 -- The piece that the byte b in single quotes decodes to, or `None` if the quotes are closed before b. Two
--- quotes are decoded as one, and `quoted` is whether b follows a quote that may be the first of two.
+-- quotes inside decode to one. `quoted` is whether b follows a quote that either is the first of two or
+-- closes the token.
 abbrev pub single_step : (quoted : Bool) → ℕ → Option Piece
 single_step quoted b =
     if b == single_quote then Some (if quoted then piece.Byte b else piece.Nothing)
@@ -72,8 +73,8 @@ double held (b ∷ rest) =
     ]
 
 -- The lines of a block scalar, each without its indentation of `indent` bytes. Each line end becomes a line
--- feed. If `in_text`, the text of the first line has begun; otherwise `column` bytes of that line were
--- skipped.
+-- feed. If `in_text`, the text begins after the indentation of its first line; otherwise it begins after
+-- `column` bytes of this indentation.
 unfoldable pub lines_of : (indent : ℕ) → (in_text : Bool) → (column : ℕ) → List ℕ → List ℕ
 lines_of indent in_text column [] = []
 lines_of indent in_text column (b ∷ rest) =
@@ -86,7 +87,7 @@ lines_of indent in_text column (b ∷ rest) =
       ]
     ]
 
--- the last byte, if there is one, is a line feed
+-- there is a last byte, and it is a line feed
 abbrev pub is_ended : Option ℕ → Bool
 is_ended None = false
 is_ended (Some b) = b == line_feed

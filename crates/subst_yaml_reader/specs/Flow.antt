@@ -72,14 +72,14 @@ flow_scalar properties style s text at rest =
     else lone_key style (span_of s at rest) s rest)
     else value true properties style 0 s at rest >>= after_token rest
 
--- a scalar or an alias in brackets, from `at` on; its anchor and tag are from `text` to `at`
+-- a turn at a scalar or an alias in brackets, from `at` on; the node's anchor and tag are from `text` to `at`
 abbrev pub scalar_in_flow : Properties → State → (text at : List ℕ) → Turn
 scalar_in_flow properties s text at = do
   found ← scalar true at
   flow_scalar properties found.0 s text at found.1
 
--- The content of a node in brackets, from `at` on: a scalar, an alias, or a collection. A collection can't be
--- a key. The node's anchor and tag are from `text` to `at`.
+-- A turn at the content of a node in brackets, from `at` on: at a scalar, an alias, or a collection. A
+-- collection can't be a key. The node's anchor and tag are from `text` to `at`.
 unfoldable pub flow_content : Properties → State → (text at : List ℕ) → Turn
 flow_content properties s text [] = scalar_in_flow properties s text []
 flow_content properties s text (b ∷ rest) =
@@ -87,8 +87,8 @@ flow_content properties s text (b ∷ rest) =
     then (if is_key_due s then None else open_bracket properties b s rest)
     else scalar_in_flow properties s text (b ∷ rest)
 
--- this text, which follows an anchor or a tag in brackets, begins no node on the same line. The text is on
--- another line (`fresh`), or begins with `,`, `]` or `}`
+-- an anchor or a tag in brackets has no content after it on the same line. The text after it is on another
+-- line (`fresh`), or begins with `,`, `]` or `}`
 abbrev pub is_node_over : (fresh : Bool) → List ℕ → Bool
 is_node_over fresh text = fresh || begins comma text || begins closing_square text || begins closing_curly text
 
@@ -134,7 +134,7 @@ close bracket s rest = do
   t ← closing s
   if is_in bracket t then after_token rest (with_next next.Done (closed t)) else None
 
--- a turn in brackets
+-- a turn at a comma, at a closing bracket, or at a member of a collection in brackets
 abbrev pub flow_token : State → List ℕ → Turn
 flow_token s [] = member s []
 flow_token s (b ∷ rest) =

@@ -46,8 +46,8 @@ entered kind depth n =
     then Some (record { blocks = n.blocks ++ kind ∷ []; brackets = []; is_due = true })
     else None
 
--- the open collections after a value, or `None` if the value can't come next. If `in_flow`, the value has to
--- be in brackets; otherwise it has to be outside them, and due
+-- the open collections after a value, or `None` if the value can't come next. A value in brackets (`in_flow`)
+-- needs an open bracket; any other value has to be due, with all brackets closed
 abbrev pub valued : (in_flow : Bool) → Nest → Option Nest
 valued true n = if has_none n.brackets then None else Some n
 valued false n = if has_none n.brackets && n.is_due then Some (record n { is_due = false }) else None

@@ -29,7 +29,7 @@ events_from (suc turns) s (b ∷ rest) =
       | Some next ↦ option_map (λ later. next.0.events ++ later) (events_from turns (without_events next.0) next.1)
     ]
 
--- the text after `%YAML 1.1` or `%YAML 1.2` at its start, or `None` if it begins with neither
+-- the text without the `%YAML 1.1` or `%YAML 1.2` at its start, or `None` if it begins with neither
 abbrev pub after_version : List ℕ → Option (List ℕ)
 after_version text =
     if starts_with (λ b c. b == c) text (codes "%YAML 1.1") || starts_with (λ b c. b == c) text (codes "%YAML 1.2")

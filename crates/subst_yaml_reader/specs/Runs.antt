@@ -90,8 +90,8 @@ abbrev pub breaks : ℕ → (rest : List ℕ) → Bool
 breaks b rest = b == line_feed && is_document_mark rest
 
 -- The bytes after the closing quote, in a text that begins inside single quotes. The result is `None` if the
--- text ends, or a document mark begins a line, before they are closed. `quoted` is whether the byte before
--- the text is a quote that closes them unless another quote follows.
+-- text ends, or a document mark begins a line, before the closing quote. `quoted` is whether the byte before
+-- the text is a quote that is the closing one unless another quote follows.
 unfoldable pub after_single : (quoted : Bool) → List ℕ → Option (List ℕ)
 after_single quoted [] = if quoted then Some [] else None
 after_single quoted (b ∷ rest) =

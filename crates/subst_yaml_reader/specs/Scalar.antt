@@ -41,8 +41,8 @@ abbrev pub is_name_over : (in_flow in_tag : Bool) → List ℕ → Bool
 is_name_over in_flow in_tag text = is_apart text
     || (in_flow && not in_tag && (begins comma text || begins closing_square text || begins closing_curly text))
 
--- the text after the name at its start; `None` if the text begins with no name, or if the byte after the name
--- can't follow one
+-- the text without the name at its start; `None` if the text begins with no name, or if the byte after the
+-- name can't follow one
 unfoldable pub name_end : (in_flow in_tag : Bool) → List ℕ → Option (List ℕ)
 name_end in_flow in_tag text =
     if nat_lt (length (after_name in_tag text)) (length text)
@@ -53,7 +53,7 @@ name_end in_flow in_tag text =
 abbrev pub is_property : List ℕ → Bool
 is_property text = begins ampersand text || begins exclamation_mark text
 
--- the text after the anchor or the tag at its start, or `None` if the anchor or tag isn't complete
+-- the text without the anchor or the tag at its start, or `None` if the anchor or tag isn't complete
 unfoldable pub property : (in_flow : Bool) → List ℕ → Option (List ℕ)
 property in_flow text = if begins exclamation_mark text
     then name_end in_flow true (after_byte exclamation_mark (after_byte exclamation_mark text))

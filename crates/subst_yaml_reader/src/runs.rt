@@ -100,8 +100,8 @@ pub(crate) fn to_line_end(text: &[u8]) -> &[u8]
     rest
 }
 
-/// Returns the text without the bytes of a name at its start. The name is a tag's if `in_tag`, and otherwise
-/// that of an anchor or an alias.
+/// Returns the text without the bytes of a name at its start. The name belongs to a tag if `in_tag`, and
+/// otherwise to an anchor or an alias.
 #[tactic(auto, unfolding(crate::specs::Runs::after_name))]
 pub(crate) fn after_name(text: &[u8], in_tag: bool) -> &[u8]
     ensures { result.now ≡ after_name in_tag text.now }
@@ -148,7 +148,7 @@ pub(crate) fn after_lines(text: &[u8], line: usize, comments: bool) -> (usize, &
     (begin, rest)
 }
 
-/// Returns whether a colon ends unquoted text if `rest` follows the colon.
+/// Returns whether a colon before `rest` ends unquoted text.
 fn is_colon_end(rest: &[u8], in_flow: bool) -> bool
     ensures { result ≡ is_colon_end in_flow rest.now }
 {
@@ -195,7 +195,7 @@ pub(crate) fn after_plain(text: &[u8], in_flow: bool) -> &[u8]
     end
 }
 
-/// Skips bytes that belong to unquoted text, whatever follows them, and that aren't blanks. Returns the text
+/// Skips bytes that aren't blanks and that belong to unquoted text whatever follows them. Returns the text
 /// after these bytes.
 #[tactic(auto, unfolding(crate::specs::Search::after_inner))]
 #[inline(always)]
@@ -213,7 +213,7 @@ fn after_inner(text: &[u8]) -> &[u8]
     rest
 }
 
-/// Returns whether a byte is a line feed and `rest`, the text after the byte, begins with a document mark.
+/// Returns whether a byte is a line feed before a document mark. `rest` is the text after the byte.
 fn breaks(byte: u8, rest: &[u8]) -> bool
     ensures { result ≡ breaks byte rest.now }
 {

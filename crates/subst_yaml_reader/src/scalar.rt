@@ -43,8 +43,8 @@ pub(crate) fn after_byte(text: &[u8], byte: u8) -> &[u8]
     }
 }
 
-/// Returns the position of the next token, after blanks, comments and line ends. `line` is the length of what
-/// remains of the source, from the start of the line in which `text` begins.
+/// Returns the position of the next token, after blanks, comments and line ends. `line` is the length of the
+/// source from the start of the line in which `text` begins.
 #[tactic(auto, unfolding(crate::specs::Scalar::after_gap))]
 pub(crate) fn after_gap(text: &[u8], line: usize) -> Spot<'_>
     ensures { after_gap line text.now ≡ (result.0, result.1, result.2.now) }
@@ -131,7 +131,7 @@ fn one_property(text: &[u8], line: usize, in_flow: bool) -> Result<(Properties, 
 }
 
 /// Reads an anchor and a tag, if any, at the start of the text. Returns which of the two were read, and the
-/// next token's position.
+/// next token's position. If neither was read, the first value of the position is always `false`.
 #[tactic(auto, unfolding(crate::specs::Scalar::node_properties))]
 #[inline(always)]
 pub(crate) fn node_properties(
@@ -198,8 +198,8 @@ fn reason_at(text: &[u8]) -> Reason {
     }
 }
 
-/// Returns the style of the scalar at the start of the text, and the text after it. Of unquoted text, only
-/// the first line is read.
+/// Returns the style of the scalar or the alias at the start of the text, and the text after it. Of unquoted
+/// text, only the first line is read.
 #[tactic(auto, unfolding(crate::specs::Scalar::scalar))]
 #[inline(always)]
 pub(crate) fn scalar(text: &[u8], in_flow: bool) -> Result<(Style, &[u8]), Halt>

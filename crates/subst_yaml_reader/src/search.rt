@@ -7,7 +7,7 @@ ghost use Rattle.subst_yaml_reader.specs.declared.runs.Escape.TheVariants.{Nothi
 
 use std::simd::prelude::*;
 
-/// The number of bytes in a vector.
+/// The number of bytes in a SIMD vector.
 const WIDTH: usize = 32;
 
 /// Searches for a byte that may begin a refused character, and returns the text from that byte on.
@@ -118,7 +118,7 @@ fn after_quoted_bytewise(text: &[u8]) -> &[u8]
     rest
 }
 
-/// Returns whether a byte is one of the quotes, a backslash or a line feed.
+/// Returns whether a byte is a single quote, a double quote, a backslash or a line feed.
 fn may_end_quoted(byte: u8) -> bool
     ensures { result ≡ may_end_quoted byte }
 {

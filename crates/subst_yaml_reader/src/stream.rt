@@ -13,8 +13,8 @@ use crate::runs::{after_lines, is_text};
 use crate::turns::{after_directive, error_of, foreign};
 use std::alloc::Global;
 
-/// The events of a text of YAML, one after the other, as [`read`](crate::read) returns them. Memory is
-/// allocated for the open collections, not for the events that were returned.
+/// The events of a text of YAML, one at a time. They are the same as in the list that [`read`](crate::read)
+/// returns. Memory is allocated for the open collections, not for the events that were returned.
 #[derive(Drop)]
 pub struct Events<'t> {
     /// The whole text.

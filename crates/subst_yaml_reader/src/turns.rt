@@ -42,16 +42,16 @@ fn after_version(text: &[u8]) -> Option<&[u8]>
     }
 }
 
-/// Returns the text from the end of its first line on. This line has to be `%YAML 1.1` or `%YAML 1.2`,
-/// optionally with a comment. Returns `None` if it isn't.
+/// Returns the text from the end of its first line on. Returns `None` if that line isn't `%YAML 1.1` or
+/// `%YAML 1.2`, with or without a comment.
 fn directive_end(text: &[u8]) -> Option<&[u8]>
     ensures { option_map (λ rest. rest.now) result ≡ directive_end text.now }
 {
     line_end_of(after_version(text)?)
 }
 
-/// Returns whether `text` begins at the start of a line. `line` is the length of what remains of the source,
-/// from the start of the line in which `text` begins.
+/// Returns whether `text` begins at the start of a line. `line` is the length of the source from the start of
+/// the line in which `text` begins.
 fn is_at_line(line: usize, text: &[u8]) -> bool
     ensures { result ≡ is_at_line (line, text.now) }
 {

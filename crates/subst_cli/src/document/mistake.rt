@@ -272,6 +272,7 @@ fn is_lone(bytes: &[u8]) -> bool
 /// Returns how many bytes to skip after the first: 11 for a surrogate pair, 1 for another escape, or else 0.
 /// The bytes don't begin with a lone surrogate.
 /// The bytes don't begin with a lone surrogate.
+/// The bytes don't begin with a lone surrogate.
 fn bytes_after(bytes: &[u8]) -> u8
     ensures { result ≡ after_first bytes.now }
 {

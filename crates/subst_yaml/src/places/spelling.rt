@@ -1,5 +1,5 @@
-//! Divides a token into pieces, each with the length of the part of the string that it spells. No contract
-//! states how. Instead, the calling module confirms each span before returning it.
+//! Divides a token into pieces, and computes how many bytes of the string each piece spells. No contract
+//! covers this. Instead, the calling module confirms each span before returning it.
 
 use std::ops::Range;
 use subst_yaml_reader::Style;
@@ -17,7 +17,8 @@ pub(crate) struct Scalar {
 pub(crate) struct Found {
     /// The byte range in the source.
     pub(crate) place: Range<usize>,
-    /// The range of the string spelled at `place`: the searched range, without a line break at its end.
+    /// The range of the string that is spelled at `place`: the range that was looked for, without a line
+    /// break at its end.
     pub(crate) short: Range<usize>,
 }
 
@@ -42,7 +43,7 @@ impl Piece {
         }
     }
 
-    /// Returns whether each byte of the piece spells itself.
+    /// Returns whether the piece is verbatim: it isn't a line break, and spells as many bytes as it has.
     fn is_verbatim(&self) -> bool {
         !self.is_break && self.len == self.spelled
     }
@@ -60,7 +61,8 @@ pub(crate) struct Cursor<'t> {
     place: usize,
     /// The offset of the next piece in the string.
     offset: usize,
-    /// Whether the current line after `|` or `>` begins with a blank, or `None` before the first line.
+    /// Whether a blank follows the indentation of the current line after `|` or `>`, or `None` before the
+    /// first line.
     is_indented: Option<bool>,
 }
 
@@ -136,7 +138,7 @@ impl<'t> Cursor<'t> {
         }
     }
 
-    /// Advances within a piece to an offset of the string, if each byte of the piece spells itself.
+    /// Advances within a piece to an offset of the string, if the piece is verbatim.
     fn pass_part(&mut self, piece: Piece, offset: usize) {
         let len = offset.saturating_sub(self.offset);
         if !piece.is_verbatim() || len == 0 {
