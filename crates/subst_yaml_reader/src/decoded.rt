@@ -203,8 +203,7 @@ fn escaped(byte: u8) -> char
     }
 }
 
-/// Returns the piece that a byte in double quotes decodes to. `held` is the state of an escape before the
-/// byte.
+/// Returns the piece that a byte in double quotes decodes to. `held` is the escape state before the byte.
 fn piece_after(held: Escape, byte: u8) -> Piece
     requires { IsSome (double_step held byte) }
     ensures { result ≡ piece_after held byte }
@@ -223,8 +222,8 @@ fn piece_after(held: Escape, byte: u8) -> Piece
     }
 }
 
-/// Returns the state of an escape after a byte between double quotes, or `None` if the byte isn't accepted.
-/// `held` is the state before the byte.
+/// Returns the escape state after a byte between double quotes, or `None` if the byte isn't accepted. `held`
+/// is the state before the byte.
 fn double_step(held: Escape, byte: u8) -> Option<Escape>
     ensures { result ≡ double_step held byte }
 {

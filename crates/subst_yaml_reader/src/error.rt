@@ -48,7 +48,7 @@ pub enum Reason {
     Bracket,
     /// Unquoted text in brackets is continued on another line.
     FlowLines,
-    /// Text follows `|` or `>` on the same line, or a whole document is a value after `|` or `>`.
+    /// Text follows the header of a block scalar on the same line, or a block scalar is the whole document.
     BlockHeader,
     /// A line of only spaces comes before the first line of text after `|` or `>`.
     BlockSpaces,

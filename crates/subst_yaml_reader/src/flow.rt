@@ -208,7 +208,7 @@ impl Reader {
         }
     }
 
-    /// Reads a scalar or an alias in brackets from `at` to `rest`, as a key or a value.
+    /// Reads a scalar or an alias in brackets, as a key or a value. The token is from `at` to `rest`.
     #[tactic(auto, unfolding(crate::specs::Flow::flow_scalar))]
     fn flow_scalar<'t>(
         &mut self,

@@ -1,4 +1,4 @@
-//! Folding: how white space between the lines of a value is joined.
+//! Folding: how the lines of a value are joined.
 
 ghost use Rattle.std.specs.Prelude.{◌≡◌, ◌==◌, ◌++◌, [], ◌∷◌, None, drop, filter, option_map, IfOk};
 ghost use Rattle.subst_yaml_reader.specs.Values.{added, between, folded_lines, gap, indented, joined, white_after};
@@ -26,7 +26,8 @@ pub(crate) enum Piece {
 pub(crate) struct Folded {
     /// The value so far.
     pub(crate) value: Vec<u8>,
-    /// The white space after `value`, not folded yet. If its line end is escaped, it begins with a backslash.
+    /// The white space after `value`, not folded yet. It begins with a backslash if its first line end is
+    /// escaped.
     pub(crate) white: Vec<u8>,
 }
 

@@ -34,7 +34,7 @@ pub(crate) struct Collection {
 pub(crate) enum Next {
     /// The first document.
     Start,
-    /// A document mark, since `...` has ended the last document.
+    /// A document mark, since `...` has ended a document.
     Ended,
     /// A value.
     Value,
@@ -77,7 +77,8 @@ pub(crate) struct Reader {
     pub(crate) size: usize,
     /// The number of bytes from the start of the next token's line to the end of the whole text.
     pub(crate) line: usize,
-    /// Whether the next token is the first on its line or after `- `, so that a collection may begin at it.
+    /// Whether the next token is the first on its line, or the first after `- `. A collection without
+    /// brackets can begin there.
     pub(crate) is_fresh: bool,
     /// The tokens that are expected next.
     pub(crate) next: Next,
@@ -141,7 +142,7 @@ impl Reader {
         Ok(())
     }
 
-    /// Sets the position of the next token.
+    /// Sets `is_fresh` and `line` for the next token, which is at `spot`.
     pub(crate) fn place(&mut self, spot: &Spot<'_>)
         ensures { state_of self.new ≡ placed spot.now.0 spot.now.1 (state_of self.old) }
     {
