@@ -122,9 +122,9 @@ pub record IsRefusedAt (source : List ℕ) (it : RefusalAt) : Type 0 where
 
 -- The list has all refused strings of the text, each with its span and its path.
 pub record AreAllRefused (ask : List ℕ → Answer → Type 0) (source : List ℕ) (all : List RefusalAt) : Type 0 where
-  -- the list has the refusals of the refused strings, in order; all other strings of values that may change
-  -- are filled in
+  -- the list has, in order, the refusal of each string that is refused; every other string can be filled in
   pub each : ReadsAs source (λ es. AreRefusalsOf ask (found_in source start es) all)
+  -- each refusal has the span and the path of its string
   pub stand : AllByRecursion (IsRefusedAt source) all
 
 -- The result of listing strings of the text `source`: `Are` holds for the list, and an error is the reader's

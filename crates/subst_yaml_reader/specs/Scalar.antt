@@ -93,9 +93,8 @@ node_properties in_flow line text = if not (is_property text) then Some (no_prop
   first ← one_property in_flow line text
   if first.1.0 || not (is_property first.1.2) then Some first else second_property in_flow line first.0 first.1.2
 
--- The byte b, before `rest`, may begin unquoted text. It isn't an indicator or white space. If it is `-`, `?`
--- or `:`, neither white space nor the end follows. In brackets (`in_flow`), `?` and `:` can't begin unquoted
--- text.
+-- the byte b, before `rest`, can begin unquoted text. It isn't an indicator or white space. If it is `-`, `?`
+-- or `:`, neither white space nor the end follows. In brackets (`in_flow`), it isn't `?` or `:`
 abbrev pub begins_plain : (in_flow : Bool) → ℕ → (rest : List ℕ) → Bool
 begins_plain in_flow b rest =
     if b == hyphen then not (is_apart rest)
@@ -149,8 +148,8 @@ line_end_of text =
     else if begins hash (after_blanks text) && not (begins hash text) then Some (to_line_end (after_blanks text))
     else None
 
--- the header of a block scalar: `digit`, or 0 without one; `keep`, whether the sign is `+`; and the text from
--- the line end on. `text` is the text after the digit and the sign
+-- the header of a block scalar: `digit`, `keep`, and the text from the line end on. `digit` is 0 if the
+-- header has no digit. `keep` is whether the sign is `+`. `text` is the text after the digit and the sign
 abbrev pub header_of : ℕ → Bool → List ℕ → Option (ℕ × Bool × List ℕ)
 header_of digit keep text = option_map (λ end. (digit, keep, end)) (line_end_of text)
 

@@ -13,8 +13,8 @@ may_be_foreign b = (nat_lt b 32 && not (b == line_feed)) || b == 127 || b == 194
 abbrev pub is_line_feed : ℕ → Bool
 is_line_feed b = b == line_feed
 
--- the byte may end text in quotes, or begin an escape: a quote, a backslash, or a line feed, which may be
--- before a document mark
+-- the byte may close quotes, begin an escape, or precede a document mark: it is a quote, a backslash or a
+-- line feed
 abbrev pub may_end_quoted : ℕ → Bool
 may_end_quoted b = b == double_quote || b == single_quote || b == backslash || b == line_feed
 
@@ -31,7 +31,7 @@ unfoldable pub to_line_feed : List ℕ → List ℕ
 to_line_feed [] = []
 to_line_feed (b ∷ rest) = elim (b == line_feed) [ true ↦ b ∷ rest | false ↦ to_line_feed rest ]
 
--- the byte belongs to the indentation of a line, or to an empty line
+-- the byte is a space, as in indentation, or a carriage return, as in an empty line
 abbrev pub is_indentation : ℕ → Bool
 is_indentation b = b == space || b == carriage_return
 
@@ -39,7 +39,7 @@ is_indentation b = b == space || b == carriage_return
 abbrev pub is_inner : ℕ → Bool
 is_inner b = not (is_blank b || is_line_end b || b == colon || is_bracket b)
 
--- the text without the bytes at its start that belong to unquoted text and aren't blanks
+-- the text without the bytes at its start that pass `is_inner`
 unfoldable pub after_inner : List ℕ → List ℕ
 after_inner [] = []
 after_inner (b ∷ rest) = elim (is_inner b) [ true ↦ after_inner rest | false ↦ b ∷ rest ]

@@ -16,7 +16,7 @@ pub record State : Type 0 where
   pub size : ℕ
   -- the number of bytes from the start of the next token's line to the end of the whole text
   pub line : ℕ
-  -- the next token is the first on its line, or the first after `- `, so that a collection may begin at it
+  -- the next token is the first on its line, or the first after `- `; a collection can begin at such a token
   pub fresh : Bool
   -- the tokens that are expected next
   pub next : Next
@@ -50,7 +50,7 @@ without_events s = record s { events = [] }
 abbrev pub emit : Event → State → State
 emit e s = record s { events = s.events ++ e ∷ [] }
 
--- the state with another position of the next token
+-- the state with the position of the next token replaced by `fresh` and `line`
 abbrev pub placed : (fresh : Bool) → (line : ℕ) → State → State
 placed fresh line s = record s { fresh = fresh; line = line }
 
@@ -79,6 +79,6 @@ outer_column s = option_map (λ block. block.column) (innermost s.blocks)
 abbrev pub column_of : State → List ℕ → ℕ
 column_of s text = s.line - length text
 
--- the span from the start of `text` to the start of `rest`, which is a later part of the text
+-- the span from the start of `text` to the start of `rest`, which is a later part of `text`
 abbrev pub span_of : State → (text rest : List ℕ) → Span
 span_of s text rest = record { start = s.size - length text; «end» = s.size - length rest }

@@ -10,8 +10,8 @@ use Rattle.subst_yaml_reader.specs.declared.stream.Events.{Events}
 abbrev pub text_of : Events → List ℕ
 text_of e = e.source.now
 
--- the events of the last turn that weren't returned yet, and the events of all later turns, or `None` if the
--- text is refused
+-- the events that weren't returned yet: the rest of the latest turn's events, and the events of all turns
+-- after it. The result is `None` if the text is refused
 abbrev pub to_come : Events → Option (List Event)
 to_come e = option_map (λ later. drop e.given e.reader.events.items ++ later)
     (events_from e.turns (without_events (state_of e.reader)) e.rest.now)

@@ -56,8 +56,9 @@ abbrev pub indented : (before : Option Bool) → (ends : List ℕ) → ℕ → O
 indented before [] b = before
 indented before (end ∷ ends) b = Some (is_blank b)
 
--- The value of lines in the style `>`, without their indentation. `before` is whether the line before them
--- begins with a blank, or `None` without such a line. `ends` are the line feeds after that line.
+-- the value, in the style `>`, of lines whose indentation was removed. `ends` are the line feeds before these
+-- lines. `before` is whether the line before those line feeds begins with a blank, or `None` if there is no
+-- such line
 unfoldable pub folded_lines : (before : Option Bool) → (ends : List ℕ) → List ℕ → List ℕ
 folded_lines before ends [] = between before true ends
 folded_lines before ends (b ∷ rest) =

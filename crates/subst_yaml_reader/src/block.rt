@@ -82,9 +82,9 @@ fn after_mark(text: &[u8]) -> &[u8]
     }
 }
 
-/// Returns the column of a block scalar's lines: `column` + `digit`. If `digit` is 0, returns `spaces`, but
-/// at least `column` + 1. The scalar's collection is at `column`. `digit` is the header's digit, or 0 without
-/// one. `spaces` is the number of spaces at the start of the first line.
+/// Returns the column of a block scalar's lines. If the header has a digit, the result is `column` + `digit`.
+/// Otherwise `digit` is 0, and the result is `spaces`, but at least `column` + 1. `column` is the column of
+/// the scalar's collection. `spaces` is the number of spaces at the start of the first line that isn't empty.
 fn block_indent(column: usize, digit: usize, spaces: usize) -> usize
     ensures { result ≡ block_indent column digit spaces }
 {
@@ -173,7 +173,8 @@ impl Reader {
         Ok(self.go_on(after_mark(text)))
     }
 
-    /// Reads a token at which a collection may begin. Without `---`, the first document begins there too.
+    /// Reads a token that is the first on its line, or the first after `- `. The first document begins there
+    /// too if it has no `---` and hasn't begun yet.
     #[tactic(auto, unfolding(crate::specs::Block::fresh_turn))]
     #[inline(always)]
     fn fresh_turn<'t>(&mut self, column: usize, text: &'t [u8]) -> Result<&'t [u8], Halt>
@@ -380,7 +381,8 @@ impl Reader {
         Ok(self.go_on(end))
     }
 
-    /// Returns the text after a value. `rest` begins after the value, or after its first line if unquoted.
+    /// Returns the text after a value. `rest` begins after the value, or after the first line of an unquoted
+    /// value.
     fn value_end<'t>(&self, style: Style, rest: &'t [u8]) -> &'t [u8]
         ensures { result.now ≡ value_end (state_of self.now) style rest.now }
     {

@@ -138,7 +138,8 @@ fn byte_at(text: &[u8], index: usize) -> u8
     if index < text.len() { text[index] } else { 0 }
 }
 
-/// Returns whether a byte before `next` is a control character other than a tab or a part of a line end.
+/// Returns whether `byte`, which `next` follows, is a control character other than a tab or a part of a line
+/// end.
 fn is_control(byte: u8, next: u8) -> bool
     ensures { result ≡ is_control byte next }
 {

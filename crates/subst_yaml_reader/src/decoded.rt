@@ -1,4 +1,4 @@
-//! Decoding of scalars: from a token to its text.
+//! Decoding of scalars: from a token to its value.
 
 ghost use Rattle.std.specs.Prelude.{◌≡◌, ◌<◌, ◌++◌, [], ◌∷◌, false, map, None, Some, option_map, IfOk, IfSome, IsSome};
 ghost use Rattle.subst_yaml_reader.specs.Decoded.{double_step, double, escaped, piece_after, piece_of, lines_of, literal_value, single_step, single, value_after, value_of, without_end};
@@ -12,9 +12,9 @@ use crate::runs::{Escape, closes, digits_after, escape_after, hex_value};
 use crate::scalar::{after_byte, digit_at, header};
 use std::alloc::{AllocError, Global};
 
-/// Returns the text of a scalar as bytes. The result is `None` for an alias, or if the token can't be decoded
-/// in this style. Lines are folded by YAML's rules, except in the style `|`. `indent` is the number of spaces
-/// before each line of a value after `|` or `>`.
+/// Returns the value of a scalar as bytes. The result is `None` for an alias, or if the token can't be
+/// decoded in this style. Lines are folded by YAML's rules, except in the style `|`. `indent` is the number
+/// of spaces before each line of a value after `|` or `>`.
 ///
 /// ```rust
 /// let value = value_of(alloc, Style::Single, 0, b"'it''s'")?;

@@ -274,6 +274,7 @@ fn is_lone(bytes: &[u8]) -> bool
 /// The bytes don't begin with a lone surrogate.
 /// The bytes don't begin with a lone surrogate.
 /// The bytes don't begin with a lone surrogate.
+/// The bytes don't begin with a lone surrogate.
 fn bytes_after(bytes: &[u8]) -> u8
     ensures { result ≡ after_first bytes.now }
 {
