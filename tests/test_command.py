@@ -392,7 +392,7 @@ class Hints(Subst):
                               told_without_line(f'values:{place}', 'not a variable name'))
 
     def test_hint_of_faults(self):
-        none = b'subst: hint: no option sets variables; use --set, --values or --env\n'
+        none = b'subst: hint: no variables are set; use --set, --values or --env\n'
         other = b"subst: hint: for another tool's file, use --only, --envsubst or --shell\n"
         fault = missing('A', '<stdin>:1:2', '$A', ' ^')
         write('empty', b'')

@@ -20,7 +20,7 @@ use subst::{Error, is_name};
 const SEARCHED_BYTES: usize = 1 << 20;
 
 /// The hint for unset variables if no option sets variables.
-const NO_VARIABLES: &str = "subst: hint: no option sets variables; use --set, --values or --env\n";
+const NO_VARIABLES: &str = "subst: hint: no variables are set; use --set, --values or --env\n";
 
 /// The hint for a dollar or a backslash that is a fault.
 const SPECIAL: &str = "subst: hint: for another tool's file, use --only, --envsubst or --shell\n";

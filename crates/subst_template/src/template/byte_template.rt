@@ -62,8 +62,8 @@ impl<'a> ByteTemplate<'a> {
     }
 
     /// Parses a source into a template, as `from_slice`, and counts the reads. A sentence of n bytes takes at
-    /// least n reads, and a refused source at least one. Either takes at most 3 n + 8 reads. No contract
-    /// states that all reads of a refused source are counted.
+    /// least n reads, and a refused source at least one. Either takes at most 3 n + 8 reads (clause `sharp`).
+    /// No contract states that all reads of a refused source are counted.
     ///
     /// # Errors
     ///
