@@ -1,6 +1,6 @@
--- The output of an expansion with a map whose values no contract states. Contracts first state an output in
--- which each value is a single byte, the mark. The real output differs from it only in some marks, which are
--- replaced by bytes of which the reader's `is_read` holds.
+-- The output of an expansion with a map whose values aren't stated in any contract. Contracts first state the
+-- output as if each value were a single byte, the mark. In the real output, marks are replaced by bytes of
+-- which the reader's `is_read` holds. The source may also have the mark's byte, which then stays.
 use Rattle.std.specs.Prelude.{◌≡◌, ℕ, List, [], ◌∷◌, ◌++◌, Option}
 use Rattle.subst_language.specs.Calls.VariableMap.{look_up_of}
 use Rattle.subst_language.specs.Language.LookUp.{LookUp}
