@@ -22,7 +22,7 @@ Options:
 
 Variables:
   -s, --set <NAME=VALUE>      Set NAME to VALUE; the last one wins
-      --set-file <NAME=FILE>  Set NAME to the contents of FILE, without its last line end
+      --set-file <NAME=FILE>  Set NAME to the contents of FILE, without a final newline
   -f, --values <FILE>         Read NAME=VALUE lines (as docker run --env-file), or a directory with a file per name
       --keep-line-end         Keep the last line end of a file whose contents are a value
   -e, --env                   Use the environment's variables
@@ -52,8 +52,8 @@ Reading:
       --known         Expand only variables that are set; leave all other text as it is
       --shell         Expand ${NAME:-default} and the other forms of Docker Compose
       --compose       Same as --shell
-      --strict        With --shell, report unset variables; with --check, report defaults in another option's form
-      --optional      Expand unset variables to nothing, with --envsubst, --shell, --only or --known
+      --strict        With --shell, report unset variables; with --check, report defaults written as ${NAME:-x}
+      --optional      With --envsubst, --shell, --only or --known, expand unset variables to nothing
 
 Writing:
   -o, --output <FILE>           Write the output to FILE, whole or not at all
@@ -70,8 +70,8 @@ a backslash is text.
 
 Precedence of values, the first one wins: --set, --set-file, values files, the
 environment, .env files, --default, defaults files. All unset variables of a
-file are reported. If it has another error, only that one is; with --only,
---envsubst, --known or --shell, all refused forms are.
+file are reported. If it has another error, only that error is reported; with
+--only, --envsubst, --known or --shell, all refused forms are reported.
 
 Exit status: 0 done, 1 a file or value is refused, 2 wrong arguments, 3 a file
 or device failed, 4 out of memory. See subst(1) for more.

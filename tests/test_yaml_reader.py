@@ -39,7 +39,7 @@ LAXER = (
     "a key over several lines or of more than 1,024 bytes isn't supported",
     "directives aren't supported, nor values that begin with '%'",
     "an unsupported name of an anchor, alias or tag",
-    "text after '|' or '>', or a whole document in this style",
+    "text on the same line after '|' or '>' isn't supported, nor a document that is only a '|' or '>' block",
     "a line of spaces before the first line of text after '|' or '>'",
     "a value can't begin with this character; quote it",
     'a character that some YAML readers reject',

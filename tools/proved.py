@@ -34,6 +34,7 @@ HIDDEN = {
     'subst_c/src/lib.rt': '',
     'subst_cli/': 'most of its modules are private',
     'subst_cli/src/expansion.rt': '',
+    'subst_cli/src/fault.rt': '',
     'subst_cli/src/format_rule.rt': '',
     'subst_cli/src/layers.rt': '',
     'subst_cli/src/options.rt': '',

@@ -13,6 +13,7 @@ pub use Rattle.subst_json.specs.Pieces
 pub use Rattle.subst_json.specs.Places
 pub use Rattle.subst_json.specs.Pointer
 pub use Rattle.subst_json.specs.Report
+pub use Rattle.subst_json.specs.Stop
 pub use Rattle.subst_document.specs.Paths as Walk
 pub use Rattle.subst_document.specs.Plain
 pub use Rattle.subst_document.specs.Refused

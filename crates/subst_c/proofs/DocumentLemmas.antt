@@ -137,7 +137,7 @@ pub refused_text : (look : LookUp) (s : List ℕ) (fault : yaml.Fault) (r : Unfi
     → Holds s fault → IfRefused r (IsInvalid s) → IfRefused r (IsRefusal Yaml look s)
 refused_text look s fault (Refused report) text h invalid =
     let why = no_document s fault.reason text h in record {
-      reported = inl (why, invalid.kind);
+      reported = inl (why, invalid.kind, invalid.boundary);
       within = invalid.within;
       text = inr (inl why);
     }

@@ -1,6 +1,7 @@
 -- Documents, and the results and faults that calls from C report for them.
 use Rattle.std.specs.Prelude.{◌≡◌, ◌≤◌, ⊤, ◌⊎◌, ℕ, List, [], ◌∷◌, ◌++◌, Some, None, Result, Ok, Err, String, codes, slice_range, length, string_bytes}
 use Rattle.std.specs.Global.{Global}
+use Rattle.std.specs.Str.{IsCharBoundary}
 use Rattle.std.specs.declared.ops.Range.{Range}
 use Rattle.json.specs.Lex.{tokens}
 use Rattle.serde_json.specs.Read.{read}
@@ -101,10 +102,11 @@ pub record IsRecordIn (format : Format) (s : List ℕ) (it : Refused format) (re
   pub kind : reported.kind ≡ fault_number it.fault
   pub place : IsPlaceIn format s it.token (range_of (Some it.fault)) (range_at reported.position reported.length)
 
--- the record reports the fault of the first refused string of the text s, or that s is no document
+-- The record reports the fault of the first refused string of the text s, or that s is no document. In the
+-- latter case, its position is a character boundary of s.
 abbrev pub IsReported : Format → LookUp → List ℕ → FaultRecord → Type 0
 IsReported format look s reported =
-    (IsNoDocument format s × (reported.kind ≡ 6))
+    (IsNoDocument format s × (reported.kind ≡ 6) × IsCharBoundary s reported.position)
     ⊎ ((it : Refused format) × IsFirst format look s it × IsRecordIn format s it reported)
 
 -- the text before a fault's text: the path, a colon and a space, or nothing if the path is empty
@@ -128,6 +130,7 @@ IsDocumentFaultText format look s text =
 -- the report of a text that is no document
 pub record IsInvalid (s : List ℕ) (report : Report) : Type 0 where
   pub kind : report.fault.kind ≡ 6
+  pub boundary : IsCharBoundary s report.fault.position
   pub within : LiesIn s report.fault
 
 -- the report of the text s, which is no document or has a refused string

@@ -125,8 +125,7 @@ pub extern "C" fn subst_text(
 
 /// Expands `source` with `pairs` straight into the front of the buffer. Unless the result is `DONE`, the
 /// buffer's contents are unspecified. Memory is allocated for the parse, and for an index of the pairs. If
-/// there is no memory for the index, the pairs are searched instead. If the parse succeeds, the result
-/// `OUT_OF_MEMORY` means that the output's length overflows a `usize`.
+/// there is no memory for the index, the pairs are searched instead.
 #[unsafe(no_mangle)]
 pub extern "C" fn subst_bytes_into(
     alloc: Global,

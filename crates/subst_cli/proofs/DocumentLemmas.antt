@@ -1,11 +1,11 @@
 -- Lemmas on documents and their faults.
-use Rattle.std.proofs.Common.{◌≡◌, ◌+◌, ◌++◌, ◌∷◌, [], ℕ, zero, suc, List, Option, Some, None, Result, Ok, Err, IfErr, IfOk, IfSome, IsSome, Vec, All, Any, Contains, String, ap, arith, inl, inr, length, map, refl, string_bytes, subst, sym, ◌∙◌}
+use Rattle.std.proofs.Common.{◌≡◌, ◌++◌, ◌∷◌, [], ℕ, List, Option, Some, None, Result, Ok, Err, IfErr, IfOk, IfSome, IsSome, Vec, All, Contains, String, ap, append-nil, append_assoc, arith, inl, inr, map, refl, string_bytes, subst, sym, ◌∙◌}
 use Rattle.std.proofs.lemmas.List.{get_or-map, length-map}
-use Rattle.std.proofs.lemmas.List.Elements.{All-contains, All-cons, All-from_recursion, All-head, All-nil, All-push, All-same, All-tail, All-weaker, Contains-append_right}
+use Rattle.std.proofs.lemmas.List.Elements.{All-cons, All-from_recursion, All-head, All-nil, All-same, All-tail, All-weaker, Contains-append_right}
 use Rattle.std.proofs.lemmas.Result.{IfOk-weaker}
 use Rattle.std.specs.Global.{Global}
 use Rattle.std.specs.List.{AllByRecursion, AllZip}
-use Rattle.std.specs.Prelude.{IsOkAnd, IsSomeAnd, zip}
+use Rattle.std.specs.Prelude.{IsOkAnd, IsSomeAnd}
 use Rattle.std.specs.declared.alloc.AllocError.{AllocError}
 use Rattle.std.specs.declared.ops.Range.{Range}
 use Rattle.json.specs.Lex.{tokens}
@@ -25,17 +25,14 @@ use Rattle.subst.specs.declared.toml.Path as toml_path
 use Rattle.subst.specs.declared.yaml.Path as yaml_path
 use Rattle.subst_document.specs.Edits.{text_at, AreSpelled}
 use Rattle.subst_document.specs.Paths.{AreRefusals, Located, Refusal}
-use Rattle.subst_document.specs.Pieces.{position, ArePiecesFrom}
 use Rattle.subst_document.specs.declared.edits.StringAt.{StringAt}
 use Rattle.subst_document.specs.declared.edits.RefusalAt.{RefusalAt}
-use Rattle.subst_document.specs.declared.pieces.Position.{Position}
-use Rattle.subst_cli.proofs.FaultLemmas.{any_of_one, any_weaker}
 use Rattle.subst_cli.proofs.ExpansionLemmas.{weaker_faults}
-use Rattle.subst_cli.proofs.PartLemmas.{any_of_last, any_of_more}
-use Rattle.subst_cli.specs.Documents.{without_path, ranges_of, ArePlaces, AreReported, IsDocumentFault, IsFaultOfOne, IsKept, IsNoDocument, IsReported, IsUnfilled, IsUnread, Leads, IsStringIn}
-use Rattle.subst_cli.specs.Faults.{IsFaultOf}
+use Rattle.subst_cli.specs.Documents.{without_path, AreDocumentFaults, AreFaultsOfStrings, AreReported, IsKept, IsKeptIn, IsNoDocument, IsUnfilled, IsUnread, Leads, IsStringIn}
+use Rattle.subst_cli.specs.Faults.{AreFaultsOrNone}
 use Rattle.subst_cli.specs.Layers.{Entry}
-use Rattle.subst_cli.specs.Strings.{AreFaults, GivesSome}
+use Rattle.subst_cli.specs.Strings.{AreFaults, FillsFrom}
+use Rattle.subst_cli.specs.ValuesFaults.{HasOne}
 use Rattle.subst_cli.specs.declared.document.filler.StringFiller.{StringFiller}
 use Rattle.subst_cli.specs.declared.document.format.Format.{Format}
 use Rattle.subst_cli.specs.declared.document.format.Format.TheVariants.{Json, Toml, Yaml}
@@ -199,10 +196,6 @@ yaml_strings_in text list stand =
       is_written = refl;
     }) list (All-from_recursion (IsRefusedAt text) list stand)
 
--- the string, kept with the text of its path, is in the text
-abbrev pub IsKeptIn : Format → List ℕ → String Global × StringAt → Type 0
-IsKeptIn format text it = IsStringIn format text (string_bytes it.0) it.1
-
 -- a refused string that is in the text is so as it is kept
 as_kept : (format : Format) (text : List ℕ) (displayed : Option (List ℕ)) (path : List ℕ) (place it : StringAt)
     → IsSomeAnd displayed (λ written. IsStringIn format text written place)
@@ -256,130 +249,40 @@ of_listed format text display returned (Err why) (Ok (Ok strings)) stand is kept
 of_listed format text display returned found (Ok (Err why)) stand is kept = tt
 of_listed format text display returned found (Err e) stand is kept = tt
 
--- ---- spans of faults
+-- ---- faults of a document
 
--- there is a piece for each range
-length_pieces : (IsPiece : Position → Position → Type 0) (from : Position) (ranges places : List (Range ℕ))
-    → ArePiecesFrom IsPiece from ranges places → length places ≡ length ranges
-length_pieces IsPiece from [] places are = ap length are
-length_pieces IsPiece from (range ∷ ranges) places (place, more, are, _, _, rest) =
-    ap length are ∙ ap (λ n. suc n) (length_pieces IsPiece _ ranges more rest)
-
--- there is a span for each range
-length_places : (format : Format) (text : List ℕ) (token : Range ℕ) (ranges places : List (Range ℕ))
-    → ArePlaces format text token ranges places → length places ≡ length ranges
-length_places format text token ranges places (inr each) = ap length each ∙ length-map ranges (λ _. token)
-length_places Json text token ranges places (inl found) =
-    length_pieces (json.Pieces.IsPiece text token found.text) (position (token.start + 1) 0) ranges places
-    found.pieces
-length_places Toml text token ranges places (inl (inl found)) =
-    length_pieces (toml.Pieces.IsPiece text token (toml.Places.quotes_of (toml.Places.part_at text token))
-    found.text) (position found.start 0) ranges places found.pieces
-length_places Toml text token ranges places (inl (inr (range, place, one, is, at))) =
-    ap length is ∙ sym (ap length one)
-length_places Yaml text token ranges places (inl found) = found.one_each
-
--- a property of some fault holds for the one that is reported for it
-any_reported : (P : Fault → Type 0) (path : List ℕ) (faults : List Fault) (places : List (Range ℕ))
-    (reported : List Fault) → length places ≡ length faults → AllZip (IsReported path) (zip faults places) reported
-    → Any P faults
-    → Any (λ it. (x : Fault) × P x × Contains (zip faults places) (x, it.range)
-    × IsReported path (x, it.range) it) reported
-any_reported P path [] places reported same zipped (k, x, below, is, holds) = absurd (omega arith)
-any_reported P path (fault ∷ faults) [] reported same zipped some = absurd (omega arith)
-any_reported P path (fault ∷ faults) (place ∷ places) [] same zipped some = absurd zipped
-any_reported P path (fault ∷ faults) (place ∷ places) (it ∷ reported) same ((named, at, cause), rest)
-    (zero, x, below, is, holds) = (
-      0,
-      it,
-      omega arith,
-      refl,
-      (
-        x,
-        holds,
-        (0, omega arith, rw (is, at) refl),
-        (named, refl, cause ∙ ap (λ (x : Fault). x.cause) is),
-      ),
-    )
-any_reported P path (fault ∷ faults) (place ∷ places) (it ∷ reported) same (here, rest)
-    (suc k, x, below, is, holds) =
-    let (j, found, within, same_one, (y, so, contains, reported_so)) = any_reported P path faults places reported
-    (omega arith) rest (k, x, omega arith, is, holds) in (
-      suc j,
-      found,
-      omega arith,
-      same_one,
-      (y, so, Contains-append_right ((fault, place) ∷ []) _ _ contains, reported_so),
+-- the faults of the next string come after those of the others
+pub strings_more : (format : Format) (placeholders : Placeholders) (entries : List Entry) (text : List ℕ)
+    (strings : List (String Global × StringAt)) (one : String Global × StringAt)
+    (faults list reported : List Fault) → AreFaultsOfStrings format placeholders entries text strings faults
+    → AreFaultsOrNone placeholders entries (text_at one.1) list
+    → AreReported format text (string_bytes one.0) one.1.span list reported
+    → AreFaultsOfStrings format placeholders entries text (strings ++ one ∷ []) (faults ++ reported)
+strings_more format placeholders entries text [] one faults list reported none are told =
+    (list, reported, [], are, told, refl, rw none (sym (append-nil reported)))
+strings_more format placeholders entries text (s ∷ strings) one faults list reported
+    (here, first, more, of, at, rest, both) are told = (
+      here,
+      first,
+      more ++ reported,
+      of,
+      at,
+      strings_more format placeholders entries text strings one more list reported rest are told,
+      ap (λ l. l ++ reported) both ∙ append_assoc first more reported,
     )
 
--- if there are no faults, none is reported
-none_reported : (format : Format) (text path : List ℕ) (token : Range ℕ) (faults reported : List Fault)
-    → AreReported format text path token faults reported → faults ≡ [] → reported ≡ []
-none_reported format text path token faults [] are none = refl
-none_reported format text path token [] (it ∷ reported) (places, are, zipped) none = absurd zipped
-none_reported format text path token (fault ∷ faults) (it ∷ reported) are none = absurd cc
+-- the faults of a string under the entries of the filler's variables
+pub faults_or_none : (filler : StringFiller) (entries : List Entry) (s : List ℕ) (faults : List Fault)
+    → FillsFrom filler entries → AreFaults filler s faults
+    → AreFaultsOrNone filler.placeholders.now entries s faults
+faults_or_none filler entries s faults from (inl (none, (x, (_, gives)))) = inl (none, (x, gives entries from))
+faults_or_none filler entries s faults from (inr some) = inr (some entries from)
 
--- The faults of the strings of a document.
-module _ (filler : StringFiller) (format : Format) (text : List ℕ) where
-  -- the strings have outputs, or one of the faults is of one of them
-  abbrev pub AreOf : (strings done : List (String Global × StringAt)) → List Fault → Type 0
-  AreOf strings done = AreFaults filler (All (λ one. GivesSome filler (text_at one.1)) done)
-      (λ entries. IsFaultOfOne format filler.placeholders.now entries text strings)
-
-  -- the faults of the next string are reported
-  pub with_string : (strings done : List (String Global × StringAt)) (one : String Global × StringAt)
-      (old new faults reported : List Fault) → Contains strings one → new ≡ old ++ reported
-      → AreReported format text (string_bytes one.0) one.1.span faults reported → AreOf strings done old
-      → AreFaults filler (GivesSome filler (text_at one.1))
-      (λ entries. IsFaultOf filler.placeholders.now entries (text_at one.1)) faults
-      → AreOf strings (done ++ one ∷ []) new
-  with_string strings done one old new faults reported one_of added are (inr some) more =
-      inr (λ entries from. rw added (any_of_more _ old reported (some entries from)))
-  with_string strings done one old new faults reported one_of added are (inl (none, fine)) (inl (no_more, gives)) =
-      inl (
-        rw (added, none) (none_reported format text _ _ faults reported are no_more),
-        All-push (λ one. GivesSome filler (text_at one.1)) done one fine gives,
-      )
-  with_string strings done one old new faults reported one_of added (places, are, zipped) (inl (none, fine))
-      (inr more) = inr (λ entries from. rw added (any_of_last _ old reported
-      (any_weaker _ _ (λ it (x, is, contains, so). (one, one_of, (x, is, faults, places, are, contains, so)))
-      reported (any_reported (IsFaultOf filler.placeholders.now entries (text_at one.1)) (string_bytes one.0) faults
-      places reported (length_places format text one.1.span (ranges_of faults) places are
-      ∙ length-map faults (λ it. it.range)) zipped (more entries from)))))
-
--- The faults of a text that is no document, whose output isn't confirmed, or that has a refused string.
-module _ (format : Format) (placeholders : Placeholders) (entries : List Entry) (text : List ℕ) where
-  abbrev pub IsOfDocument : Fault → Type 0
-  IsOfDocument = IsDocumentFault format placeholders entries text
-
-  -- the only fault is that it is no document, or that its output isn't confirmed
-  pub unread_one : {E : Type 0} (cause : Cause) (range : Range ℕ) (result : Result (Vec Fault Global) E)
-      → IsUnread (IsNoDocument format text) cause
-      → IfOk result (λ faults. (it : Fault) × (faults.items ≡ it ∷ []) × (it.cause ≡ cause)
-      × (it.range ≡ range))
-      → IfOk result (λ faults. Any IsOfDocument faults.items)
-  unread_one cause range result unread one =
-      any_of_one IsOfDocument cause range result one (λ it same at. inl (rw same unread))
-
-  -- a fault is that its output isn't confirmed
-  pub unconfirmed : {E : Type 0} (result : Result (Vec Fault Global) E)
-      → IfOk result (λ faults. Any (λ it. it.cause ≡ NotConfirmed) faults.items)
-      → IfOk result (λ faults. Any IsOfDocument faults.items)
-  unconfirmed result some =
-      IfOk-weaker result (λ faults. Any (λ it. it.cause ≡ NotConfirmed) faults.items)
-      (λ faults. Any IsOfDocument faults.items)
-      (λ faults. any_weaker (λ it. it.cause ≡ NotConfirmed) IsOfDocument (λ it same. inl (rw same tt))
-      faults.items) some
-
-  -- a fault is of one of these strings, which are all in the text
-  pub fault_in_document : (strings : List (String Global × StringAt)) (faults : List Fault)
-      → All (IsKeptIn format text) strings
-      → Any (IsFaultOfOne format placeholders entries text strings) faults → Any IsOfDocument faults
-  fault_in_document strings faults all is =
-      any_weaker (IsFaultOfOne format placeholders entries text strings) IsOfDocument
-      (λ it (one, contains, at). inr (
-        string_bytes one.0,
-        one.1,
-        All-contains (IsKeptIn format text) strings one all contains,
-        at,
-      )) faults is
+-- the only fault is that a text is no document, or that its output isn't confirmed
+pub unread_one : {E : Type 0} (format : Format) (placeholders : Placeholders) (entries : List Entry)
+    (text : List ℕ) (cause : Cause) (range : Range ℕ) (result : Result (Vec Fault Global) E)
+    → IsUnread (IsNoDocument format text) cause
+    → IfOk result (λ faults. HasOne (λ it. (it.cause ≡ cause) × (it.range ≡ range)) faults.items)
+    → IfOk result (λ faults. AreDocumentFaults format placeholders entries text faults.items)
+unread_one format placeholders entries text cause range result unread one =
+    IfOk-weaker result _ _ (λ faults (it, is, path, (same, at)). inl (it, is, path, rw same unread)) one

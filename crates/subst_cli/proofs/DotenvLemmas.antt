@@ -1,5 +1,5 @@
 -- Lemmas on the settings of .env files and the expansion of values.
-use Rattle.std.proofs.Common.{◌≡◌, ◌==◌, ℕ, Bool, true, length, List, [], ◌∷◌, ◌++◌, Option, Some, None, Ok, Err, IfSome, Bor, reverse, inr, refl, sym, ap, subst, ◌∙◌, append_assoc, arith}
+use Rattle.std.proofs.Common.{◌≡◌, ◌==◌, ℕ, Bool, true, length, List, [], ◌∷◌, ◌++◌, Option, Some, None, Ok, Err, IfSome, IsUtf8, Bor, reverse, inr, refl, sym, ap, subst, ◌∙◌, append_assoc, arith}
 use Rattle.std.proofs.Math.Path.{fun_ext}
 use Rattle.std.proofs.lemmas.Grind.{common_steps}
 use Rattle.std.specs.Option.{option_map, option_or}
@@ -68,12 +68,12 @@ same_look_up_after scope above before are have =
 
 -- the entries after one more file
 pub files_more : (above start : List Entry) (files : List (List ℕ)) (s : List ℕ) (middle after : List Entry)
-    → FilesLeave above start files middle → Leaves above middle (after_mark s) after
+    → FilesLeave above start files middle → IsUtf8 s × Leaves above middle (after_mark s) after
     → FilesLeave above start (files ++ s ∷ []) after
-files_more above start [] s middle after same leaves =
-    (after, subst (λ it. Leaves above it (after_mark s) after) (sym same) leaves, refl)
-files_more above start (file ∷ files) s middle after (next, here, later) leaves =
-    (next, here, files_more above next files s middle after later leaves)
+files_more above start [] s middle after same (utf8, leaves) =
+    (after, utf8, subst (λ it. Leaves above it (after_mark s) after) (sym same) leaves, refl)
+files_more above start (file ∷ files) s middle after (next, utf8, here, later) leaves =
+    (next, utf8, here, files_more above next files s middle after later leaves)
 
 -- the next element is moved from those left to those done
 pub one_more_done : {X : Type 0} (list done left rest : List X) (x : X) → list ≡ done ++ left → left ≡ x ∷ rest
@@ -89,11 +89,12 @@ after_setting_left above before more after s name value later x is expands added
     sets name value later x (sym is) expands (subst (λ it. Leaves above it later after) added leaves)
 
 -- the refusal of a later line, from a line that sets a name
-pub after_setting_stopped : (above before more : List Entry) (cause : Cause) (s name value later x : List ℕ)
+pub after_setting_stopped : (above before more : List Entry) (rest : List ℕ) (cause : Cause)
+    (s name value later x : List ℕ)
     → Sets name value later ≡ line_in s → Expands above before value x → more ≡ before ++ setting name x ∷ []
-    → Stops above more later cause → Stops above before s cause
-after_setting_stopped above before more cause s name value later x is expands added stops =
-    after_setting name value later x (sym is) expands (subst (λ it. Stops above it later cause) added stops)
+    → Stops above more later rest cause → Stops above before s rest cause
+after_setting_stopped above before more rest cause s name value later x is expands added stops =
+    after_setting name value later x (sym is) expands (subst (λ it. Stops above it later rest cause) added stops)
 
 -- a variable of the text whose value above isn't UTF-8
 pub names_unreadable : (above : List Entry) (s t taken : List ℕ) (name : Bor (List ℕ)) (variables : List VariableAt)

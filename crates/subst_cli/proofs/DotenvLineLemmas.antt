@@ -3,7 +3,7 @@ use Rattle.std.proofs.Common.{◌≡◌, ◌<◌, ◌≤◌, ◌⊎◌, ◌↔�
 use Rattle.std.proofs.lemmas.Grind.{common_steps}
 use Rattle.std.specs.List.{list_all}
 use Rattle.subst_cli.proofs.EntryLemmas.{spelled_by}
-use Rattle.subst_cli.specs.DotenvLine.{Text, Wrong, before, closes, name_len, named_line, opening, pair_text, quoted_line, text_in, trimmed, value_line}
+use Rattle.subst_cli.specs.DotenvLine.{Text, Wrong, before, closes, name_len, named_line, opening, pair_text, quoted_line, text_in, trimmed, value_line, wrong_message}
 use Rattle.subst_cli.specs.Layers.{is_spelled}
 use Rattle.subst_cli.specs.ValuesFile.{after_blanks, is_blank}
 use Rattle.subst_cli.specs.declared.dotenv.shell_text.Quote.{Quote}
@@ -80,7 +80,7 @@ spelled_so test text name is told = subst (λ n. is_spelled n ≡ test) is (spel
 
 -- a line that doesn't begin with a name
 pub misnamed : (test : Bool) (text name : List ℕ) → name ≡ take (name_len text) text → IsTrue test ↔ IsName name
-    → test ≡ false → Wrong ≡ named_line text
+    → test ≡ false → Wrong (wrong_message text) ≡ named_line text
 misnamed test text name is told no_name = rw (spelled_so test text name is told ∙ no_name) refl
 
 -- a line that sets a name

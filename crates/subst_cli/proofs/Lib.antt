@@ -8,9 +8,12 @@ pub mod FaultLemmas
 pub mod FillLemmas
 pub mod LayerLemmas
 pub mod ListLemmas
+pub mod ListingLemmas
 pub mod MapBackLemmas
+pub mod MessageLemmas
 pub mod MistakeLemmas
 pub mod PartLemmas
-pub mod SourceLemmas
+pub mod PositionLemmas
 pub mod ValuesFileLemmas
+pub mod WidthLemmas
 pub mod YamlLemmas

@@ -1,63 +1,44 @@
 -- Lemmas on the faults of a part, and on names whose values aren't UTF-8.
-use Rattle.std.proofs.Common.{◌≡◌, ◌≢◌, ◌==◌, ℕ, zero, suc, Bool, false, true, true≢false, Option, Some, None, Result, Err, Ok, Vec, IfOk, IfSome, OnOk, IsSomeAnd, List, [], ◌∷◌, ◌++◌, length, map, get_or, inl, inr, refl, sym, ap, subst, ◌∙◌, arith, ◌⊎◌, All, Any, Contains, IsPermutation}
+use Rattle.std.proofs.Common.{◌≡◌, ◌≢◌, ◌==◌, ℕ, Bool, false, true, true≢false, Option, Some, None, IfSome, IsSomeAnd, List, [], ◌∷◌, ◌++◌, append-nil, length, map, get_or, inl, inr, refl, sym, ap, subst, ◌∙◌, arith, All, IsPermutation}
 use Rattle.std.proofs.lemmas.Bool.{eqb-true}
-use Rattle.std.proofs.lemmas.List.{nil_from_length}
-use Rattle.std.proofs.lemmas.List.Elements.{All-contains, All-map, Contains-append_left, Contains-append_right, Contains-push}
-use Rattle.std.proofs.lemmas.Simd.{map-map}
-use Rattle.std.specs.Global.{Global}
-use Rattle.std.proofs.lemmas.List.Sorted.{Contains-permutation}
+use Rattle.std.proofs.lemmas.List.{length-map, nil_from_length}
+use Rattle.std.proofs.lemmas.List.Elements.{All-from_recursion, All-map, All-nil, All-weaker}
+use Rattle.std.proofs.lemmas.List.Sorted.{IsPermutation-refl, length_permutation}
+use Rattle.std.specs.List.{AllByRecursion, AllZip}
+use Rattle.std.specs.declared.ops.Range.{Range}
 use Rattle.subst.specs.ErrorFault.{error_fault}
+use Rattle.subst.specs.Errors.{Error}
+use Rattle.subst.specs.Grammar.{Grammar}
+use Rattle.subst.specs.Reading.{IsReading, IsRefusalOf}
+use Rattle.subst_foreign.specs.declared.refused.FormAt.{FormAt}
+use Rattle.subst_foreign.specs.declared.refused.TextError.TheVariants as errors
 use Rattle.subst_language.proofs.Language.FaultLemmas.{exclusive}
+use Rattle.subst_language.proofs.Language.MissingLemmas.{missing_among}
+use Rattle.subst_language.proofs.Language.OneTreeLemmas.{tree_unique}
+use Rattle.subst_language.proofs.Language.VariablesLemmas.{none_missing, variable_names}
 use Rattle.subst_language.specs.Language.BadItem.{HasFault}
 use Rattle.subst_language.specs.Language.NamesIn.{names_in}
 use Rattle.subst.specs.Fault as faults
-use Rattle.subst.specs.Range.{range_of}
-use Rattle.subst.specs.Language.Answer.{Answers, Gives, Refuses}
+use Rattle.subst.specs.Language.Answer.{Answers, Gives}
 use Rattle.subst.specs.Language.LookUp.{LookUp}
 use Rattle.subst_filter_lib.specs.Arguments.{value_under}
 use Rattle.subst_language.proofs.Language.NamesInLemmas.{value_same}
-use Rattle.subst_language.proofs.Language.VariablesLemmas.{variable_names}
-use Rattle.subst_language.specs.Calls.Clauses.{AreVariables}
-use Rattle.subst_language.specs.Calls.Variables.{variable_of}
-use Rattle.subst_language.specs.Language.Sentence.{IsSentence, Spells}
+use Rattle.subst_language.specs.Language.Sentence.{Spells}
 use Rattle.subst_language.specs.Language.Tree.{Tree}
-use Rattle.subst_language.specs.Language.Variables.{name_of}
-use Rattle.subst_language.specs.declared.variable.Variable.{Variable}
+use Rattle.subst_language.specs.Language.Variables as tree
+use Rattle.subst_language.specs.Language.Variables.{name_of, all_missing, variables_of}
+use Rattle.subst.specs.Range.{range_of}
 use Rattle.subst.specs.Question.{by_question, negated, value_of, is_missing, is_empty}
-use Rattle.std.specs.List.{AllZip}
 use Rattle.subst_foreign.specs.declared.forms.Forms.{Forms}
 use Rattle.subst_foreign.specs.declared.forms.Forms.TheVariants as of
-use Rattle.subst_cli.specs.Faults.{IsFaultBy, IsFirstOf, IsUnreadableAmong, IsUnreadableIn}
+use Rattle.subst_cli.proofs.ListLemmas.{none_zipped}
+use Rattle.subst_cli.specs.Faults.{has_unreadable_value, AreFaultsBy, AreForms, AreMissing, AreUnreadable, IsForm}
 use Rattle.subst_cli.specs.Fill.{looked_up_name, look_for, AreReadable, GivesBy}
 use Rattle.subst_cli.specs.Layers.{has_unreadable, is_unreadable, look_up_in, AreVariablesOf, Entry, IsUnreadable}
+use Rattle.subst_cli.specs.ValuesFaults.{HasOne}
+use Rattle.subst_cli.specs.declared.fault.Cause.TheVariants.{Refused}
 use Rattle.subst_cli.specs.declared.fault.Fault.{Fault}
-use Rattle.subst_cli.specs.declared.fill.Refusal.{Refusal}
 use Rattle.subst_cli.specs.declared.layers.Variables.{Variables}
-
--- a property of some element holds for one in another order
-pub any_permuted : {X : Type 0} (P : X → Type 0) (xs ys : List X) → IsPermutation xs ys → Any P xs → Any P ys
-any_permuted P xs ys order (k, x, below, is, holds) =
-    let (j, b, e) = Contains-permutation xs ys x order (k, below, is) in (j, x, b, e, holds)
-
--- a property of some element holds for one in a longer list
-pub any_of_more : {X : Type 0} (P : X → Type 0) (xs more : List X) → Any P xs → Any P (xs ++ more)
-any_of_more P xs more (k, x, below, is, holds) =
-    let (j, b, e) = Contains-append_left xs more x (k, below, is) in (j, x, b, e, holds)
-
--- a property of some element holds for one after others
-pub any_of_last : {X : Type 0} (P : X → Type 0) (xs more : List X) → Any P more → Any P (xs ++ more)
-any_of_last P xs more (k, x, below, is, holds) =
-    let (j, b, e) = Contains-append_right xs more x (k, below, is) in (j, x, b, e, holds)
-
--- a property of an element holds for one once it is added
-pub any_added : {X : Type 0} (P : X → Type 0) (xs : List X) (x : X) → P x → Any P (xs ++ x ∷ [])
-any_added P xs x holds = let (j, b, e) = Contains-push xs x in (j, x, b, e, holds)
-
--- if there are elements, one of them is among them
-pub any_contained : {X : Type 0} (xs : List X) (count : ℕ) → count ≡ length xs → (count == 0) ≡ false
-    → Any (Contains xs) xs
-any_contained [] count is some = absurd (true≢false (sym (ap (λ n. n == 0) is) ∙ some))
-any_contained (x ∷ xs) count is some = (0, x, omega arith, refl, (0, omega arith, refl))
 
 -- if no elements are counted, there are none
 pub none_counted : {X : Type 0} (xs : List X) (count : ℕ) → count ≡ length xs → (count == 0) ≡ true → xs ≡ []
@@ -95,37 +76,39 @@ module _ (variables : Variables) (entries : List Entry) (are : AreVariablesOf va
   pub readable_name : (name : List ℕ) → has_unreadable variables name ≡ false → ¬ (IsUnreadable entries name)
   readable_name name is unreadable = let known = unreadable_same name false (sym is) in absurd cc
 
-  -- if the variables have no value that isn't UTF-8, a template looks up none
-  pub readable_all : ((name : List ℕ) → has_unreadable variables name ≡ false) → (forms : Option Forms)
-      (s : List ℕ) → AreReadable forms entries s
-  readable_all none forms s t spells k d below = readable_name _ (none _)
+  -- if the variables have no value that isn't UTF-8, no variable of a template has a fault
+  pub none_unreadable : ((name : List ℕ) → has_unreadable variables name ≡ false) → (forms : Option Forms)
+      (list : List tree.Variable) → AreUnreadable forms entries list []
+  none_unreadable none forms [] = tt
+  none_unreadable none forms (v ∷ list) =
+      rw (unreadable_same (looked_up_name forms v.name) false (sym (none _))) (none_unreadable none forms list)
 
   -- the output of a template by the variables is its output by each look-up that agrees with the entries
   pub output_under : (forms : Option Forms) (s x : List ℕ) → AreReadable forms entries s
       → Answers s (look_for forms (value_under variables.values)) (Gives x) → GivesBy forms entries s x
-  output_under forms s x readable (t, spells, gives) look agrees = (
-    t,
-    spells,
-    value_same 0 t (look_for forms look) (look_for forms (value_under variables.values))
-        (λ k d below. same_look forms look (value_under variables.values) (get_or (names_in t) k d)
-        (agrees _ (readable t spells k d below)
-        ∙ sym (ap (λ (f : LookUp). f (looked_up_name forms (get_or (names_in t) k d))) are.values))) ∙ gives,
+  output_under forms s x readable (t, spells, gives) = (
+    readable,
+    λ look agrees. (
+      t,
+      spells,
+      value_same 0 t (look_for forms look) (look_for forms (value_under variables.values))
+          (λ k d below. same_look forms look (value_under variables.values) (get_or (names_in t) k d)
+          (agrees _ (readable t spells k d below)
+          ∙ sym (ap (λ (f : LookUp). f (looked_up_name forms (get_or (names_in t) k d))) are.values))) ∙ gives,
+    ),
   )
+
+-- if a tree of a template has no name, no value of a name isn't UTF-8
+pub readable_nameless : (forms : Option Forms) (entries : List Entry) (s : List ℕ) (t : Tree) → Spells t s
+    → names_in t ≡ [] → AreReadable forms entries s
+readable_nameless forms entries s t spells none u same =
+    subst (All (λ name. ¬ (IsUnreadable entries (looked_up_name forms name))))
+    (sym (ap names_in (tree_unique s u t same spells) ∙ none)) (All-nil _)
 
 -- a list to which an item was appended isn't empty
 pub pushed : {X : Type 0} (xs : List X) (x : X) → ¬ (xs ++ x ∷ [] ≡ [])
 pushed [] x none = absurd cc
 pushed (y ∷ xs) x none = absurd cc
-
--- a source that is no template has no names, so their values are UTF-8
-pub readable_where_wrong : {E : Type 0} (forms : Option Forms) (entries : List Entry) (s : List ℕ)
-    (fault : Option faults.Fault)
-    (result : Result (Vec Fault Global) E) → IfSome fault (HasFault 0 s) → OnOk result (fault ≢ None)
-    → IfOk result (λ faults. faults.items ≡ [] → AreReadable forms entries s)
-readable_where_wrong forms entries s fault (Err e) has some = tt
-readable_where_wrong forms entries s None (Ok faults) has some = absurd (some refl)
-readable_where_wrong forms entries s (Some f) (Ok faults) has some =
-    λ none t spells. absurd (exclusive s t 0 f spells has)
 
 -- a source with a fault is no template
 pub no_tree : (s : List ℕ) (fault : Option faults.Fault) → IfSome fault (HasFault 0 s) → fault ≢ None
@@ -133,53 +116,114 @@ pub no_tree : (s : List ℕ) (fault : Option faults.Fault) → IfSome fault (Has
 no_tree s None has some t spells = some refl
 no_tree s (Some f) has some t spells = exclusive s t 0 f spells has
 
-module _ {E : Type 0} (forms : Option Forms) (entries : List Entry) (s : List ℕ) (list : List Variable)
-    (are : AreVariables s list) where
-  -- if the variables of a template have no fault, the values of its names are UTF-8
-  pub readable_names : (result : Result (Vec Fault Global) E)
-      → IfOk result (λ faults. faults.items ≡ []
-      → All (λ it. ¬ (IsUnreadable entries (looked_up_name forms it.name.now))) list)
-      → IfOk result (λ faults. faults.items ≡ [] → AreReadable forms entries s)
-  readable_names (Err e) each = tt
-  readable_names (Ok faults) each = λ none t spells.
-      let names : map (λ variable. variable.name.now) list ≡ names_in t =
-      sym (map-map name_of variable_of list) ∙ ap (map name_of) (are t spells) ∙ variable_names 0 t in
-      subst (All (λ name. ¬ (IsUnreadable entries (looked_up_name forms name)))) names
-      (All-map (λ name. ¬ (IsUnreadable entries (looked_up_name forms name))) (λ it. it.name.now) list (each none))
+-- if some variables have no faults, their values are UTF-8
+all_readable : (forms : Option Forms) (entries : List Entry) (list : List tree.Variable)
+    → AreUnreadable forms entries list []
+    → AllByRecursion (λ v. has_unreadable_value forms entries v ≡ false) list
+all_readable forms entries [] are = tt
+all_readable forms entries (v ∷ list) are =
+    each (has_unreadable_value forms entries v) refl (all_readable forms entries list)
+  where
+    each : (unreadable : Bool) → has_unreadable_value forms entries v ≡ unreadable
+        → (AreUnreadable forms entries list []
+        → AllByRecursion (λ v. has_unreadable_value forms entries v ≡ false) list)
+        → AllByRecursion (λ v. has_unreadable_value forms entries v ≡ false) (v ∷ list)
+    each true is rest = absurd (rw is at are)
+    each false is rest = (is, rest (rw is at are))
 
-  -- a variable whose value isn't UTF-8, among those of a list, is one of the template
-  pub unreadable_variables : (result : Result (Vec Fault Global) E) → IsSentence s
-      → IfOk result (λ faults. All (IsUnreadableAmong forms entries (map variable_of list)) faults.items)
-      → IfOk result (λ faults. All (IsUnreadableIn forms entries s) faults.items)
-  unreadable_variables (Err e) spelled each = tt
-  unreadable_variables (Ok faults) (t, spells) each = λ k d below.
-      (t, spells, rw (← are t spells) (each k d below))
+-- if missing variables whose values are UTF-8 have no faults, there are none
+none_missing_told : (forms : Option Forms) (entries : List Entry) (list : List tree.Variable)
+    → AllByRecursion (λ v. has_unreadable_value forms entries v ≡ false) list
+    → AreMissing forms entries list [] → list ≡ []
+none_missing_told forms entries [] readable are = refl
+none_missing_told forms entries (v ∷ list) readable are = absurd (rw readable.0 at are)
 
--- if there is a fault, it is the error's, at its position
-refused_at : (o : Option faults.Fault) (P : faults.Fault → Type 0) (position : ℕ) → IsSomeAnd o P
-    → position ≡ (range_of o).start → IsSomeAnd o (λ f. P f × (position ≡ (range_of (Some f)).start))
-refused_at None P position some is = absurd some
-refused_at (Some f) P position some is = (some, is)
+-- if a template has no faults, no variable is missing
+none_told : (forms : Option Forms) (entries : List Entry) (t : Tree) (look : LookUp)
+    (unreadable missing : List Fault) → AreUnreadable forms entries (variables_of 0 t) unreadable
+    → AreMissing forms entries (all_missing 0 t look) missing → unreadable ++ missing ≡ []
+    → all_missing 0 t look ≡ []
+none_told forms entries t look [] [] are all none =
+    none_missing_told forms entries (all_missing 0 t look)
+    (missing_among (λ v. has_unreadable_value forms entries v ≡ false) 0 t look
+    (all_readable forms entries (variables_of 0 t) are)) all
+none_told forms entries t look [] (it ∷ missing) are all none = absurd cc
+none_told forms entries t look (it ∷ unreadable) missing are all none = absurd cc
 
--- the first error of a refusal, and a fault of a value that isn't UTF-8, are faults of the template
-pub fault_stated : (forms : Option Forms) (entries : List Entry) (template : List ℕ) (look : LookUp)
-    (refusal : Refusal) (unreadable : List Fault) (it : Fault) → look ≡ look_up_in entries
-    → IsSomeAnd (error_fault refusal.first) (λ f. Answers template (look_for forms look) (Refuses f))
-    → All (IsUnreadableIn forms entries template) unreadable → IsFirstOf refusal it ⊎ Contains unreadable it
-    → IsFaultBy forms entries template it
-fault_stated forms entries template look refusal unreadable it same refused each (inl (cause, start)) =
-    inl (rw cause (refused_at (error_fault refusal.first) _ it.range.start (rw same at refused) start))
-fault_stated forms entries template look refusal unreadable it same refused each (inr told) =
-    inr (All-contains (IsUnreadableIn forms entries template) unreadable it each told)
+-- the value of an option for which a property holds
+some_and : {X : Type 0} (o : Option X) (P : X → Type 0) → IsSomeAnd o P → (x : X) × (o ≡ Some x) × P x
+some_and None P is = absurd is
+some_and (Some x) P is = (x, refl, is)
 
--- a property of some fault holds for the one that is mapped from it
-pub any_mapped : (P : Fault → Type 0) (IsMapped : Fault → Fault → Type 0) (faults others : List Fault)
-    → AllZip IsMapped faults others → Any P faults → Any (λ it. (x : Fault) × P x × IsMapped x it) others
-any_mapped P IsMapped [] others mapped (k, x, below, is, holds) = absurd (omega (arith, below))
-any_mapped P IsMapped (y ∷ faults) [] mapped (k, x, below, is, holds) = absurd mapped
-any_mapped P IsMapped (y ∷ faults) (it ∷ others) mapped (zero, x, below, is, holds) =
-    (0, it, omega arith, refl, (y, rw (← is) at holds, mapped.0))
-any_mapped P IsMapped (y ∷ faults) (it ∷ others) mapped (suc k, x, below, is, holds) =
-    let (j, z, within, at, held) =
-    any_mapped P IsMapped faults others mapped.1 (k, x, omega (arith, below), is, holds) in
-    (suc j, z, omega (arith, within), at, held)
+-- The faults of a template.
+module _ (forms : Option Forms) (entries : List Entry) (s : List ℕ) where
+  abbrev look : LookUp
+  look = look_for forms (look_up_in entries)
+
+  abbrev IsEachUnreadable : List Fault → Type 0
+  IsEachUnreadable unreadable =
+      (t : Tree) → Spells t s → AreUnreadable forms entries (variables_of 0 t) unreadable
+
+  -- if there are none of values that aren't UTF-8, all values are
+  pub readable_without_faults : (unreadable : List Fault) → IsEachUnreadable unreadable → unreadable ≡ []
+      → AreReadable forms entries s
+  readable_without_faults unreadable each none t spells =
+      subst (All (λ name. ¬ (IsUnreadable entries (looked_up_name forms name)))) (variable_names 0 t)
+      (All-map (λ name. ¬ (IsUnreadable entries (looked_up_name forms name))) name_of (variables_of 0 t)
+      (All-weaker (λ v. has_unreadable_value forms entries v ≡ false)
+      (λ v. ¬ (IsUnreadable entries (looked_up_name forms v.name)))
+      (λ v readable unreadable. true≢false (sym unreadable ∙ readable)) (variables_of 0 t)
+      (All-from_recursion (λ v. has_unreadable_value forms entries v ≡ false) (variables_of 0 t)
+      (all_readable forms entries (variables_of 0 t) (rw none at (each t spells))))))
+
+  -- if the template has an output, they are those of values that aren't UTF-8
+  pub faults_of_output : (x : List ℕ) (unreadable : List Fault) → Answers s look (Gives x)
+      → IsEachUnreadable unreadable → AreFaultsBy forms entries s unreadable
+  faults_of_output x unreadable (t, spells, gives) each = inr (
+    t,
+    spells,
+    (
+      unreadable,
+      [],
+      each t spells,
+      rw ((none_missing 0 t look).1 (x, gives)) tt,
+      rw append-nil (IsPermutation-refl unreadable),
+    ),
+  )
+
+  -- a source that is no template has only the library's fault
+  pub fault_of_refusal : (range : Range ℕ) (e : Error) (faults : List Fault)
+      → IsSomeAnd (error_fault e) (λ f. HasFault 0 s f × (range ≡ range_of (Some f)))
+      → HasOne (λ it. (it.cause ≡ Refused e) × (it.range ≡ range)) faults
+      → (¬ (faults ≡ [])) × AreFaultsBy forms entries s faults
+  fault_of_refusal range e faults refusal (it, is, path, (cause, at)) =
+      let (f, same, (fault, in_source)) = some_and (error_fault e) _ refusal in (
+        λ none. let known = is in absurd (cc),
+        inl (f, it, fault, (e, cause, same, at ∙ in_source, path), is),
+      )
+
+  -- if variables are missing, there are those of values that aren't UTF-8, and of other missing variables
+  pub faults_of_missing : {X : Type 0} (view : X → tree.Variable) (list : List X) (unreadable faults : List Fault)
+      → (¬ (list ≡ [])) × ((t : Tree) × Spells t s × (map view list ≡ all_missing 0 t look))
+      → IsEachUnreadable unreadable
+      → (missing : List Fault) × AreMissing forms entries (map view list) missing
+      × IsPermutation (unreadable ++ missing) faults
+      → (¬ (faults ≡ [])) × AreFaultsBy forms entries s faults
+  faults_of_missing view list unreadable faults (some, (t, spells, same)) each (missing, are, order) =
+      let all = subst (λ list. AreMissing forms entries list missing) same are in (
+        λ none. some (nil_from_length list (sym (length-map list view) ∙ ap length (same
+            ∙ none_told forms entries t look unreadable missing (each t spells) all (nil_from_length _
+            (sym (length_permutation (unreadable ++ missing) faults order) ∙ ap length none))))),
+        inr (t, spells, (unreadable, missing, each t spells, all, order)),
+      )
+
+-- the faults of a text's refused forms, of which there is a first one
+pub forms_stated : (g : Grammar) (s : List ℕ) (first : FormAt) (forms : List FormAt) (faults : List Fault)
+    → ((one other : List FormAt) → IsReading g s one → IsReading g s other → one ≡ other)
+    → IsRefusalOf g s (errors.Refused first) → IsReading g s forms → AllZip IsForm forms faults
+    → (¬ (faults ≡ [])) × AreForms g s faults
+forms_stated g s first forms faults unique (others, reading) all are = (
+  λ none. let same = unique forms (first ∷ others) all reading in
+      let none_left = none_zipped IsForm forms faults are none in absurd (cc),
+  (forms, all, are),
+)

@@ -1,15 +1,14 @@
 -- Lemmas on values files and their lines.
-use Rattle.std.proofs.Common.{◌≡◌, ◌<◌, ℕ, Bool, true, false, List, [], ◌∷◌, ◌++◌, length, ltb, if◌then◌else◌, Option, Some, None, refl, sym, ap, ◌∙◌, append_assoc, append-nil, arith}
+use Rattle.std.proofs.Common.{◌≡◌, ◌≢◌, ◌<◌, ℕ, Bool, true, false, List, [], ◌∷◌, ◌++◌, length, ltb, Option, Some, None, IsSome, inl, inr, refl, sym, ap, ◌∙◌, append_assoc, append-nil, arith}
 use Rattle.std.proofs.lemmas.Bool.{ltb-false, ltb-true}
 use Rattle.std.proofs.lemmas.Grind.{common_steps}
 use Rattle.std.proofs.lemmas.Option.{none-some, same_Some}
-use Rattle.std.proofs.lemmas.List.Elements.{Contains-append_left, Contains-append_right}
 use Rattle.std.proofs.lemmas.List.Splits.{slice_split_first}
 use Rattle.std.specs.List.{after_first, before_first, position_or_len, slice_split}
 use Rattle.subst_cli.proofs.EntryLemmas.{place_within}
 use Rattle.subst_cli.specs.Layers.{Entry}
-use Rattle.subst_cli.specs.Run.{IsRefusedFile}
-use Rattle.subst_cli.specs.ValuesFile.{before, is_line_feed, parsed, values_in, values_of_files, values_of_lines, with_file, with_line}
+use Rattle.subst_cli.specs.ValuesFaults.{AreRefused, IsRefusedFile}
+use Rattle.subst_cli.specs.ValuesFile.{Line, Nothing, Sets, Wrong, before, is_line_feed, parsed, values_in, values_of_files, values_of_lines, with_file, with_line}
 use Rattle.subst_cli.specs.declared.source.Refused.{Refused}
 use Rattle.subst_cli.specs.declared.values_file.ValuesSource.{ValuesSource}
 
@@ -51,27 +50,48 @@ line_first bytes = of (ltb (position_or_len is_line_feed bytes) (length bytes)) 
         let least = ltb-false (position_or_len is_line_feed bytes) (length bytes) past in
         line_last bytes (omega (arith, place_within is_line_feed bytes))
 
--- the entries of the file once a line is read, which may be wrong
+-- the entries of the file once a line is read
 pub line_taken : (whole : Option (List Entry)) (some more : List Entry) (rest line after : List ℕ)
-    (is_right : Bool) → whole ≡ before some (values_of_lines (slice_split is_line_feed rest))
+    → whole ≡ before some (values_of_lines (slice_split is_line_feed rest))
     → line ≡ before_first is_line_feed rest → after ≡ after_first is_line_feed rest
-    → ((later : Option (List Entry)) → before some (with_line (parsed line) later)
-    ≡ (if is_right then before more later else None))
-    → whole ≡ (if is_right then before more (values_of_lines (slice_split is_line_feed after)) else None)
-line_taken whole some more rest line after is_right so_far line_is after_is step =
+    → ((later : Option (List Entry)) → before some (with_line (parsed line) later) ≡ before more later)
+    → whole ≡ before more (values_of_lines (slice_split is_line_feed after))
+line_taken whole some more rest line after so_far line_is after_is step =
     let first : values_of_lines (slice_split is_line_feed rest)
     ≡ with_line (parsed line) (values_of_lines (slice_split is_line_feed after)) =
     rw (line_is, after_is) (line_first rest) in
     so_far ∙ ap (before some) first ∙ step (values_of_lines (slice_split is_line_feed after))
 
--- a refused file of some files is one of a longer list
-pub refused_left : (xs ys : List ValuesSource) (it : Refused) → IsRefusedFile xs it
-    → IsRefusedFile (xs ++ ys) it
-refused_left xs ys it (file, one, is) = (file, Contains-append_left xs ys file one, is)
+-- a line is right if it is read, and wrong if not
+pub right_line : (line : List ℕ) (some more : List Entry)
+    → ((later : Option (List Entry)) → before some (with_line (parsed line) later) ≡ before more later)
+    → parsed line ≢ Wrong
+right_line line some more step wrong =
+    none-some _ (sym (ap (λ it. before some (with_line it (Some []))) wrong) ∙ step (Some []))
 
-pub refused_right : (xs ys : List ValuesSource) (it : Refused) → IsRefusedFile ys it
-    → IsRefusedFile (xs ++ ys) it
-refused_right xs ys it (file, one, is) = (file, Contains-append_right xs ys file one, is)
+pub wrong_line : (line : Line) (some : List Entry)
+    → ((later : Option (List Entry)) → before some (with_line line later) ≡ None) → line ≡ Wrong
+wrong_line Nothing some step = absurd (none-some _ (sym (step (Some []))))
+wrong_line (Sets entry) some step = absurd (none-some _ (sym (step (Some []))))
+wrong_line Wrong some step = refl
+
+-- the next file has entries
+pub read_last : (files : List ValuesSource) (file : ValuesSource) (refused : List Refused)
+    → IsSome (values_in file) → AreRefused files refused → AreRefused (files ++ file ∷ []) refused
+read_last [] file refused some none = inl (some, none)
+read_last (first ∷ files) file refused some (inl (read, are)) = inl (read, read_last files file refused some are)
+read_last (first ∷ files) file refused some (inr (it, later, same, is, are)) =
+    inr (it, later, same, is, read_last files file later some are)
+
+-- the next file is refused
+pub refused_last : (files : List ValuesSource) (file : ValuesSource) (refused : List Refused) (last : Refused)
+    → IsRefusedFile file last → AreRefused files refused
+    → AreRefused (files ++ file ∷ []) (refused ++ last ∷ [])
+refused_last [] file refused last is none = inr (last, [], ap (λ l. l ++ last ∷ []) none, is, refl)
+refused_last (first ∷ files) file refused last is (inl (read, are)) =
+    inl (read, refused_last files file refused last is are)
+refused_last (first ∷ files) file refused last is (inr (it, later, same, at, are)) =
+    inr (it, later ++ last ∷ [], ap (λ l. l ++ last ∷ []) same, at, refused_last files file later last is are)
 
 -- the entries of one more file come after those of the files before it
 pub values_more : (files : List ValuesSource) (file : ValuesSource) (xs ys : List Entry)

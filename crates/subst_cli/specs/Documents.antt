@@ -1,7 +1,7 @@
 -- Documents: the spans and paths of their strings, and the faults of refused strings.
-use Rattle.std.specs.Prelude.{◌≡◌, ◌⊎◌, ◌≤◌, ⊤, ℕ, List, [], ◌∷◌, IfSome, Option, String, length, map, slice_range, string_bytes, zip}
+use Rattle.std.specs.Prelude.{◌≡◌, ◌⊎◌, ◌≤◌, ◌++◌, ⊤, ℕ, List, [], ◌∷◌, IfSome, Option, String, length, map, slice_range, string_bytes, zip}
 use Rattle.std.specs.Global.{Global}
-use Rattle.std.specs.List.{AllZip, Contains}
+use Rattle.std.specs.List.{All, AllZip, Contains}
 use Rattle.std.specs.declared.ops.Range.{Range}
 use Rattle.json.specs.Lex.{tokens}
 use Rattle.subst.specs.Fault as library
@@ -28,9 +28,10 @@ use Rattle.subst_document.specs.Edits.{text_at}
 use Rattle.subst_document.specs.Paths.{PathStep}
 use Rattle.subst_document.specs.declared.edits.StringAt.{StringAt}
 use Rattle.subst_document.specs.declared.edits.RefusalAt.{RefusalAt}
-use Rattle.subst_cli.specs.Faults.{IsFaultOf}
+use Rattle.subst_cli.specs.Faults.{AreFaultsOrNone}
 use Rattle.subst_cli.specs.Layers.{Entry}
 use Rattle.subst_cli.specs.Strings.{AnswersBy}
+use Rattle.subst_cli.specs.ValuesFaults.{HasOne}
 use Rattle.subst_cli.specs.declared.document.filler.StringFiller.{StringFiller}
 use Rattle.subst_cli.specs.declared.document.format.Finder.{Finder}
 use Rattle.subst_cli.specs.declared.document.format.Finder.TheVariants as finders
@@ -112,6 +113,10 @@ pub record IsStringIn (format : Format) (text written : List ℕ) (it : StringAt
   pub leads : Leads format text path (text_at it)
   pub is_written : written ≡ path_text format path
 
+-- the document `text` has the string, with the text of the string's path
+abbrev pub IsKeptIn : Format → (text : List ℕ) → String Global × StringAt → Type 0
+IsKeptIn format text it = IsStringIn format text (string_bytes it.0) it.1
+
 -- the text and the span of a refused string
 abbrev pub without_path : {Path : Type 0} → RefusalAt Path → StringAt
 without_path it = record { text = it.text; span = it.span }
@@ -166,25 +171,24 @@ abbrev pub AreReported : Format → (text : List ℕ) → (path : List ℕ) → 
 AreReported format text path token faults reported = (places : List (Range ℕ))
     × ArePlaces format text token (ranges_of faults) places × AllZip (IsReported path) (zip faults places) reported
 
--- `it` is a fault `x` of the string `one` of the document `text`, with the string's path and the fault's span
--- in `text`; a list `faults` contains `x`, and `places` are the spans of these faults; the span of `it` is
--- the one for `x`
-abbrev pub IsFaultAt : Format → Placeholders → List Entry → List ℕ → (path : List ℕ) → StringAt → Fault → Type 0
-IsFaultAt format placeholders entries text path one it =
-    (x : Fault) × IsFaultOf placeholders entries (text_at one) x
-    × (faults : List Fault) × (places : List (Range ℕ))
-    × ArePlaces format text one.span (ranges_of faults) places
-    × Contains (zip faults places) (x, it.range) × IsReported path (x, it.range) it
+-- `faults` are those of `strings`, in order: of each string its faults in some order, or none if it has an
+-- output. Each has the string's path, and its span in the document `text`.
+abbrev pub AreFaultsOfStrings : Format → Placeholders → List Entry → (text : List ℕ)
+    → (strings : List (String Global × StringAt)) → (faults : List Fault) → Type 0
+AreFaultsOfStrings format placeholders entries text [] faults = faults ≡ []
+AreFaultsOfStrings format placeholders entries text (one ∷ strings) faults =
+    (list : List Fault) × (reported : List Fault) × (more : List Fault)
+    × AreFaultsOrNone placeholders entries (text_at one.1) list
+    × AreReported format text (string_bytes one.0) one.1.span list reported
+    × AreFaultsOfStrings format placeholders entries text strings more × (faults ≡ reported ++ more)
 
--- `it` is a fault of one of `strings`, each of which is a pair of a path's text and the string at the path
-abbrev pub IsFaultOfOne : Format → Placeholders → List Entry → List ℕ → List (String Global × StringAt)
-    → Fault → Type 0
-IsFaultOfOne format placeholders entries text strings it = (one : String Global × StringAt)
-    × Contains strings one × IsFaultAt format placeholders entries text (string_bytes one.0) one.1 it
+-- the only fault is that `text` isn't a document, or that the output isn't confirmed
+abbrev pub IsOnlyUnread : Format → (text : List ℕ) → (faults : List Fault) → Type 0
+IsOnlyUnread format text faults = HasOne (λ it. IsUnread (IsNoDocument format text) it.cause) faults
 
--- `it` is a fault of `text`: that `text` isn't a document, that the output isn't confirmed, or a fault of one
--- of the document's strings
-abbrev pub IsDocumentFault : Format → Placeholders → List Entry → List ℕ → Fault → Type 0
-IsDocumentFault format placeholders entries text it = IsUnread (IsNoDocument format text) it.cause
-    ⊎ ((path : List ℕ) × (one : StringAt) × IsStringIn format text path one
-    × IsFaultAt format placeholders entries text path one it)
+-- `faults` are those of the document `text`, at least one: the only one, or those of some of its strings
+abbrev pub AreDocumentFaults : Format → Placeholders → List Entry → (text : List ℕ) → (faults : List Fault)
+    → Type 0
+AreDocumentFaults format placeholders entries text faults = IsOnlyUnread format text faults
+    ⊎ ((strings : List (String Global × StringAt)) × All (IsKeptIn format text) strings
+    × AreFaultsOfStrings format placeholders entries text strings faults × (¬ (faults ≡ [])))

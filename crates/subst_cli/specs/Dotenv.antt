@@ -4,9 +4,9 @@
 use denote.Ref.{Bor}
 use Rattle.std.specs.Global.{Global}
 use Rattle.std.specs.HashMap.{HashMap, get_by_text}
-use Rattle.std.specs.List.{All, Any, Contains}
+use Rattle.std.specs.List.{All, Contains}
 use Rattle.std.specs.Option.{option_map, option_or}
-use Rattle.std.specs.Prelude.{◌≡◌, ◌⊎◌, ◌++◌, ℕ, true, false, List, [], ◌∷◌, reverse, Some, Ok, Err, IfSome, IsUtf8, String, string_bytes}
+use Rattle.std.specs.Prelude.{◌≡◌, ◌⊎◌, ◌++◌, ◌-◌, ℕ, true, false, List, [], ◌∷◌, reverse, Some, Ok, Err, IfSome, IsUtf8, String, length, string_bytes}
 use Rattle.subst.specs.ErrorFault.{error_fault}
 use Rattle.subst.specs.Fault as fault
 use Rattle.subst.specs.Foreign.{Given}
@@ -19,6 +19,8 @@ use Rattle.subst_cli.specs.DotenvLine.{Nothing, Sets, Wrong, line_in}
 use Rattle.subst_cli.specs.Faults.{IsNoText}
 use Rattle.subst_cli.specs.Layers.{Entry, IsUnreadable, entries_of, look_up_in}
 use Rattle.subst_cli.specs.Mark.{after_mark}
+use Rattle.subst_cli.specs.ValuesFaults.{HasOne, IsAt}
+use Rattle.subst_cli.specs.ValuesFile.{after_blanks}
 use Rattle.subst_cli.specs.declared.dotenv.Settings.{Settings}
 use Rattle.subst_cli.specs.declared.dotenv.value.Scope.{Scope}
 use Rattle.subst_cli.specs.declared.dotenv.value.Unexpanded.{Unexpanded}
@@ -83,7 +85,8 @@ abbrev pub setting : (name x : List ℕ) → Entry
 setting name x = record { name = name; value = Some x }
 
 -- The lines of the text `s` turn the entries `before` of earlier lines into `after`: each line that sets a
--- name appends an entry. Values are expanded with the entries `above` too.
+-- name appends an entry. Values are expanded with the entries of earlier lines, and with `above`, those of
+-- higher precedence.
 pub data Leaves (above : List Entry) : (before : List Entry) → (s : List ℕ) → (after : List Entry) → Type 0 where
   ended : {before : List Entry} → Leaves above before [] before
   nothing : {before after : List Entry} {s : List ℕ} (later : List ℕ) → line_in s ≡ Nothing later
@@ -92,48 +95,56 @@ pub data Leaves (above : List Entry) : (before : List Entry) → (s : List ℕ) 
       → line_in s ≡ Sets name value later → Expands above before value x
       → Leaves above (before ++ setting name x ∷ []) later after → Leaves above before s after
 
--- the first refused line of the text `s` is refused for this cause. `above` are the entries of higher
--- precedence, and `before` those of the lines before `s`
-pub data Stops (above : List Entry) : (before : List Entry) → (s : List ℕ) → Cause → Type 0 where
-  wrong : {before : List Entry} {s : List ℕ} (why : Bor (List ℕ)) → line_in s ≡ Wrong
-      → Stops above before s (NoVariable why)
+-- the first refused line of the text `s` is refused for this cause; `rest` is the text from that line on,
+-- without its leading blanks. `above` are the entries of higher precedence, and `before` those of the lines
+-- before `s`
+pub data Stops (above : List Entry) : (before : List Entry) → (s rest : List ℕ) → Cause → Type 0 where
+  wrong : {before : List Entry} {s : List ℕ} (why : Bor (List ℕ)) → line_in s ≡ Wrong why.now
+      → Stops above before s (after_blanks s) (NoVariable why)
   refused : {before : List Entry} {s : List ℕ} {cause : Cause} (name value later : List ℕ)
-      → line_in s ≡ Sets name value later → IsRefusedFor above before value cause → Stops above before s cause
-  after_nothing : {before : List Entry} {s : List ℕ} {cause : Cause} (later : List ℕ) → line_in s ≡ Nothing later
-      → Stops above before later cause → Stops above before s cause
-  after_setting : {before : List Entry} {s : List ℕ} {cause : Cause} (name value later x : List ℕ)
+      → line_in s ≡ Sets name value later → IsRefusedFor above before value cause
+      → Stops above before s (after_blanks s) cause
+  after_nothing : {before : List Entry} {s rest : List ℕ} {cause : Cause} (later : List ℕ)
+      → line_in s ≡ Nothing later → Stops above before later rest cause → Stops above before s rest cause
+  after_setting : {before : List Entry} {s rest : List ℕ} {cause : Cause} (name value later x : List ℕ)
       → line_in s ≡ Sets name value later → Expands above before value x
-      → Stops above (before ++ setting name x ∷ []) later cause → Stops above before s cause
+      → Stops above (before ++ setting name x ∷ []) later rest cause → Stops above before s rest cause
 
 -- Each outcome of reading `later`, starting with the entries `entries`, is also an outcome of reading `s`,
--- starting with the entries `before`. An outcome is the list of entries after all lines, or the cause of a
--- refusal.
+-- starting with the entries `before`. An outcome is the list of entries after all lines, or the first refused
+-- line and its cause.
 pub record GoesOn (above before : List Entry) (s : List ℕ) (entries : List Entry) (later : Bor (List ℕ))
     : Type 0 where
   pub leaves : (after : List Entry) → Leaves above entries later.now after → Leaves above before s after
-  pub stops : (cause : Cause) → Stops above entries later.now cause → Stops above before s cause
+  pub stops : (rest : List ℕ) (cause : Cause) → Stops above entries later.now rest cause
+      → Stops above before s rest cause
 
--- the files, read in order, turn the entries `before` of earlier files into `after`; values are expanded with
--- the entries `above` too
+-- the files, which are UTF-8 and are read in order, turn the entries `before` of earlier files into `after`;
+-- values are expanded with the entries `above` too
 abbrev pub FilesLeave : (above before : List Entry) → List (List ℕ) → (after : List Entry) → Type 0
 FilesLeave above before [] after = before ≡ after
-FilesLeave above before (s ∷ files) after = (middle : List Entry) × Leaves above before (after_mark s) middle
-    × FilesLeave above middle files after
+FilesLeave above before (s ∷ files) after = (middle : List Entry) × IsUtf8 s
+    × Leaves above before (after_mark s) middle × FilesLeave above middle files after
 
--- `it` is a fault of a file with the bytes `s`: the bytes aren't UTF-8, or a line is refused, with the
--- entries `above` and the entries `before` of earlier files
+-- `it` reports the first refused line of a file with the bytes `s`, at the offset where the line's leading
+-- blanks end. `above` are the entries of higher precedence, and `before` those of earlier files
+abbrev pub IsFirstRefusedLine : (above before : List Entry) → (s : List ℕ) → Fault → Type 0
+IsFirstRefusedLine above before s it = (rest : List ℕ) × Stops above before (after_mark s) rest it.cause
+    × IsAt (length s - length rest) it
+
+-- `it` is the fault of a file with the bytes `s`: the bytes aren't UTF-8, or a line is refused
 abbrev pub IsFaultOfFile : (above before : List Entry) → (s : List ℕ) → Fault → Type 0
-IsFaultOfFile above before s it = IsNoText s it ⊎ Stops above before (after_mark s) it.cause
+IsFaultOfFile above before s it = IsNoText s it ⊎ (IsUtf8 s × IsFirstRefusedLine above before s it)
 
--- `it` reports the first refused file of `files`; the files `done` precede that file and leave the entries
--- `before`; at least one of the faults in `it` is a fault of that file
+-- `it` reports the first refused file of `files`, with its one fault; the files `done` precede that file and
+-- leave the entries `before`
 pub record IsFirstRefused (above : List Entry) (files : List (List ℕ)) (it : Refused) : Type 0 where
   pub done : List (List ℕ)
   pub later : List (List ℕ)
   pub before : List Entry
   pub all : files ≡ done ++ it.source.bytes.items ∷ later
   pub leave : FilesLeave above [] done before
-  pub faulty : Any (IsFaultOfFile above before it.source.bytes.items) it.faults.items
+  pub faulty : HasOne (IsFaultOfFile above before it.source.bytes.items) it.faults.items
 
 -- the value of a name in a map of texts
 abbrev pub value_in : {S : Type 0} → HashMap (String Global) (String Global) S → LookUp
@@ -148,8 +159,8 @@ HasLast set = (name : List ℕ) → value_in set.values name ≡ look_up_in (rev
 abbrev pub look_up_by : Scope → LookUp
 look_up_by scope name = option_or (value_under scope.above.now.values name) (value_in scope.set.now name)
 
--- the fault `f` reports a variable that is required in the text `s` and missing under `look`; in `f`, as in
--- the template of `s`, a digit may precede the variable's name
+-- The fault `f` reports a variable that is required in the text `s` and missing under `look`. The conversion
+-- of `s` to a template may put a digit before the variable's name, and `f` has the name with this digit.
 abbrev pub IsMissingOf : LookUp → (s : List ℕ) → fault.Fault → Type 0
 IsMissingOf look s f = (position : ℕ) × (name : List ℕ) × (f ≡ fault.NoSuchVariable position name)
     × IsValueOf look s (Err (without_question name))

@@ -4,7 +4,7 @@ use Rattle.std.specs.List.{after_first, before_first, list_all, position_or_len}
 use Rattle.std.specs.Option.{option_map}
 use Rattle.std.specs.Str.{bytes_eq}
 use Rattle.subst_cli.specs.Layers.{is_spelled}
-use Rattle.subst_cli.specs.ValuesFile.{after_blanks, is_blank, is_line_feed, is_ignored, without_return}
+use Rattle.subst_cli.specs.ValuesFile.{after_blanks, is_blank, is_line_feed, is_ignored, message_of, without_return}
 use Rattle.subst_cli.specs.declared.dotenv.line.Line.{Line as ReadLine}
 use Rattle.subst_cli.specs.declared.dotenv.line.Line.TheVariants as read
 use Rattle.subst_cli.specs.declared.dotenv.shell_text.Quote.{Quote}
@@ -97,24 +97,24 @@ text_in quote (b ∷ c ∷ s) =
     else joined (pair_text quote b c) (byte_text quote b (c ∷ s)) (text_in quote s) (text_in quote (c ∷ s))
 
 -- the first line of a text: an empty line or a comment; a line that sets a name to a shell-style text; or a
--- wrong line. `rest` is the text after the line
+-- wrong line with the message of its error. `rest` is the text after the line
 pub data Line : Type 0 where
   Nothing : (rest : List ℕ) → Line
   Sets : (name text rest : List ℕ) → Line
-  Wrong : Line
+  Wrong : (why : List ℕ) → Line
 
 -- the line that the code returns, as a `Line`
 abbrev pub line_of : ReadLine → Line
 line_of (read.Nothing rest) = Nothing rest.now
 line_of (read.Sets name text rest) = Sets name.now text.items rest.now
-line_of (read.Wrong why) = Wrong
+line_of (read.Wrong why) = Wrong why.now
 
 -- A lower bound of the length of a text that begins with the line. It is one more than the length of the text
 -- after the line, or 0 for a wrong line
 abbrev pub least_len : Line → ℕ
 least_len (Nothing rest) = length rest + 1
 least_len (Sets name text rest) = length rest + 1
-least_len Wrong = 0
+least_len (Wrong why) = 0
 
 -- the bytes without their trailing blanks
 abbrev pub trimmed : List ℕ → List ℕ
@@ -138,18 +138,23 @@ abbrev pub opening : List ℕ → Quote
 opening [] = Bare
 opening (b ∷ s) = if b == 39 then Single else if b == 34 then Double else Bare
 
+-- the message of a value whose quote isn't closed
+abbrev pub unclosed : List ℕ
+unclosed = codes "missing closing quote"
+
 -- the line that sets a name to this unquoted value, trimmed of blanks on both sides; `later` is the text
 -- after the line. Without a value, the line is wrong
 abbrev pub bare_line : (name later : List ℕ) → Option Text → Line
-bare_line name later None = Wrong
+bare_line name later None = Wrong unclosed
 bare_line name later (Some t) = Sets name (trimmed (after_blanks t.text)) later
 
 -- the line that sets a name to this quoted value; a wrong line if the quote isn't closed, or if more than
 -- blanks and a comment follow in the line
 abbrev pub quoted_line : (name : List ℕ) → Option Text → Line
-quoted_line name None = Wrong
+quoted_line name None = Wrong unclosed
 quoted_line name (Some t) =
-    if is_ended (first_line t.rest) then Sets name t.text (later_lines t.rest) else Wrong
+    if is_ended (first_line t.rest) then Sets name t.text (later_lines t.rest)
+    else Wrong (codes "text after the closing quote")
 
 -- the line that sets a name to a value with these quotes, parsed from `s`, the text after `=`
 abbrev pub value_line : Quote → (name s : List ℕ) → Line
@@ -157,21 +162,26 @@ value_line Bare name s = bare_line name (later_lines s) (text_in Bare (first_lin
 value_line quote name s = quoted_line name (text_in quote (drop 1 (after_blanks s)))
 
 -- the line that sets a name, parsed from the text `s` after the name and the blanks that follow it; a wrong
--- line if `s` doesn't begin with `=`
-abbrev pub line_after : (name s : List ℕ) → Line
-line_after name [] = Wrong
-line_after name (b ∷ s) = if b == 61 then value_line (opening (after_blanks s)) name s else Wrong
+-- line with the message `why` if `s` doesn't begin with `=`
+abbrev pub line_after : (why name s : List ℕ) → Line
+line_after why name [] = Wrong why
+line_after why name (b ∷ s) = if b == 61 then value_line (opening (after_blanks s)) name s else Wrong why
 
 -- the number of ASCII letters, digits and underscores that a text begins with
 abbrev pub name_len : List ℕ → ℕ
 name_len s = position_or_len (λ b. not (is_name_byte b)) s
+
+-- the message of a text's first line, if it doesn't have a variable name and then `=`
+abbrev pub wrong_message : List ℕ → List ℕ
+wrong_message s = message_of (before_first is_line_feed s)
 
 -- the first line of a text, parsed from the line's name on; a wrong line if the text begins with no variable
 -- name
 abbrev pub named_line : List ℕ → Line
 named_line s =
     if is_spelled (take (name_len s) s)
-    then line_after (take (name_len s) s) (after_blanks (drop (name_len s) s)) else Wrong
+    then line_after (wrong_message s) (take (name_len s) s) (after_blanks (drop (name_len s) s))
+    else Wrong (wrong_message s)
 
 -- the word `export`
 abbrev pub export : List ℕ

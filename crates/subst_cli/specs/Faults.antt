@@ -1,31 +1,42 @@
 -- The faults of a text or byte string that is refused.
-use Rattle.std.specs.Prelude.{◌≡◌, ◌⊎◌, ℕ, Bool, false, List, Option, Some, IsSomeAnd, IsUtf8, string_bytes}
-use Rattle.std.specs.List.{Contains}
+use Rattle.std.specs.Prelude.{◌≡◌, ◌⊎◌, ◌++◌, ℕ, Bool, List, [], ◌∷◌, Option, Some, None, IsSomeAnd, IsUtf8, filter, length, map, not, string_bytes}
+use Rattle.std.specs.List.{AllZip}
+use Rattle.std.specs.List.Sorted.{IsPermutation}
 use Rattle.std.specs.Str.{IsValidUpTo}
+use Rattle.subst.specs.Calls.Variables.{missing_variable}
 use Rattle.subst.specs.ErrorFault.{error_fault}
 use Rattle.subst.specs.Errors.{Error}
 use Rattle.subst.specs.Errors.error
+use Rattle.subst.specs.Fault as library
 use Rattle.subst.specs.Grammar.{Grammar}
-use Rattle.subst.specs.Language.Answer.{Answers, Refuses}
+use Rattle.subst.specs.Language.BadItem.{HasFault}
 use Rattle.subst.specs.Language.LookUp.{LookUp}
 use Rattle.subst.specs.Language.Sentence.{Spells}
 use Rattle.subst.specs.Language.Tree.{Tree}
-use Rattle.subst.specs.Language.Variables.{Variable, variables_of}
+use Rattle.subst.specs.Language.Variables.{Variable, all_missing, variables_of}
 use Rattle.subst.specs.Range.{range_of}
-use Rattle.subst.specs.Reading.{IsRefusalOf}
-use Rattle.subst_cli.specs.Fill.{looked_up_name, forms_of, grammar_of, look_for, IsTemplateFor}
-use Rattle.subst_cli.specs.Layers.{has_unreadable, look_up_in, Entry, IsUnreadable}
+use Rattle.subst.specs.Reading.{IsReading}
+use Rattle.subst.specs.Template.{IsTemplate}
+use Rattle.subst_cli.specs.Fill.{looked_up_name, grammar_of, look_for, GivesFor}
+use Rattle.subst_cli.specs.Layers.{look_up_in, is_unreadable, Entry}
 use Rattle.subst_cli.specs.MapBack.{IsMappedIn}
+use Rattle.subst_cli.specs.Ranges.{span_at}
 use Rattle.subst_cli.specs.declared.fault.Cause.{Cause}
 use Rattle.subst_cli.specs.declared.fault.Cause.TheVariants.{Refused, Unreadable, NotUtf8, Form}
 use Rattle.subst_cli.specs.declared.fault.Fault.{Fault}
 use Rattle.subst_cli.specs.declared.fill.Refusal.{Refusal}
-use Rattle.subst_cli.specs.declared.layers.Variables.{Variables}
+use Rattle.subst_cli.specs.declared.fill.Refusal.TheVariants.{Missing, NotATemplate}
 use Rattle.subst_cli.specs.declared.options.Placeholders.{Placeholders}
 use Rattle.subst_cli.specs.declared.options.Placeholders.TheVariants.{Own, Chosen}
 use Rattle.subst_foreign.specs.declared.forms.Forms.{Forms}
 use Rattle.subst_foreign.specs.declared.refused.FormAt.{FormAt}
-use Rattle.subst_foreign.specs.declared.refused.TextError.TheVariants as errors
+
+-- the source `s` is refused under the look-up: for a fault with this range, or for all its missing variables
+abbrev pub IsRefusalUnder : LookUp → (s : List ℕ) → Refusal → Type 0
+IsRefusalUnder look s (NotATemplate range e) =
+    IsSomeAnd (error_fault e) (λ f. HasFault 0 s f × (range ≡ range_of (Some f)))
+IsRefusalUnder look s (Missing list) = (¬ (list.items ≡ []))
+    × ((t : Tree) × Spells t s × (map missing_variable list.items ≡ all_missing 0 t look))
 
 -- the cause is that the value of this name isn't UTF-8
 abbrev pub IsUnreadableName : List ℕ → Cause → Type 0
@@ -33,77 +44,92 @@ IsUnreadableName name (Unreadable other) = string_bytes other ≡ name
 IsUnreadableName name _ = ⊥
 
 -- the fault, at this position, is that the value of this name isn't UTF-8
-abbrev pub IsUnreadableAt : ℕ → List ℕ → Fault → Type 0
-IsUnreadableAt position name it = IsUnreadableName name it.cause × (it.range.start ≡ position)
+abbrev pub IsUnreadableAt : (position : ℕ) → (name : List ℕ) → Fault → Type 0
+IsUnreadableAt position name it =
+    IsUnreadableName name it.cause × (it.range ≡ span_at position (length name)) × (string_bytes it.path ≡ [])
 
--- one of `variables` has a value in `entries` that isn't UTF-8, and the fault reports this value at the
--- variable's position
-abbrev pub IsUnreadableAmong : Option Forms → List Entry → List Variable → Fault → Type 0
-IsUnreadableAmong forms entries variables it = (v : Variable) × Contains variables v
-    × IsUnreadable entries (looked_up_name forms v.name)
-    × IsUnreadableAt v.position (looked_up_name forms v.name) it
+-- the value of this variable of a template isn't UTF-8
+abbrev pub has_unreadable_value : Option Forms → List Entry → Variable → Bool
+has_unreadable_value forms entries v = is_unreadable entries (looked_up_name forms v.name)
 
--- the fault is that the value of a variable of the template isn't UTF-8
-abbrev pub IsUnreadableIn : Option Forms → List Entry → List ℕ → Fault → Type 0
-IsUnreadableIn forms entries template it =
-    (t : Tree) × Spells t template × IsUnreadableAmong forms entries (variables_of 0 t) it
+-- `faults` has one fault for each of `variables` whose value isn't UTF-8, in order
+abbrev pub AreUnreadable : Option Forms → List Entry → (variables : List Variable) → (faults : List Fault) → Type 0
+AreUnreadable forms entries variables faults =
+    AllZip (λ v it. IsUnreadableAt v.position (looked_up_name forms v.name) it)
+    (filter (has_unreadable_value forms entries) variables) faults
 
--- the cause is the library's refusal of the template under the look-up, and the refusal has this position
-abbrev pub IsRefusedAt : LookUp → List ℕ → Cause → ℕ → Type 0
-IsRefusedAt look template (Refused e) position = IsSomeAnd (error_fault e)
-    (λ f. Answers template look (Refuses f) × (position ≡ (range_of (Some f)).start))
-IsRefusedAt look template _ position = ⊥
+-- the cause is that this variable is missing
+abbrev pub IsMissingCause : Variable → Cause → Type 0
+IsMissingCause v (Refused (error.NoSuchVariable e)) = missing_variable e ≡ v
+IsMissingCause v _ = ⊥
 
--- `it` is a fault of a template: its refusal by the library, or a variable whose value isn't UTF-8
-abbrev pub IsFaultBy : Option Forms → List Entry → List ℕ → Fault → Type 0
-IsFaultBy forms entries template it =
-    IsRefusedAt (look_for forms (look_up_in entries)) template it.cause it.range.start
-    ⊎ IsUnreadableIn forms entries template it
+-- the fault is that this variable of a template is missing
+abbrev pub IsMissingAt : Variable → Fault → Type 0
+IsMissingAt v it =
+    IsMissingCause v it.cause × (it.range ≡ span_at v.position (length v.name)) × (string_bytes it.path ≡ [])
 
--- `it` is the fault `x` of the template of `s`, mapped back to `s` if `s` is another tool's text
-abbrev pub IsMovedTo : Placeholders → List Entry → (s template : List ℕ) → Fault → Fault → Type 0
-IsMovedTo Own entries s template x it = it ≡ x
-IsMovedTo (Chosen chosen) entries s template x it = IsMappedIn (grammar_of chosen entries) s template x it
+-- `faults` has one fault for each of `variables`, in order, except for those whose value isn't UTF-8
+abbrev pub AreMissing : Option Forms → List Entry → (variables : List Variable) → (faults : List Fault) → Type 0
+AreMissing forms entries variables faults =
+    AllZip IsMissingAt (filter (λ v. not (has_unreadable_value forms entries v)) variables) faults
 
--- `it` is a fault of the template of the text or byte string `s`, mapped back to `s`
-abbrev pub IsFaultByTemplate : Placeholders → List Entry → List ℕ → Fault → Type 0
-IsFaultByTemplate placeholders entries s it = (template : List ℕ) × IsTemplateFor placeholders entries s template
-    × (x : Fault) × IsFaultBy (forms_of placeholders) entries template x
-    × IsMovedTo placeholders entries s template x it
+-- `faults` are those of a template with the tree `t`, in some order: one for each variable whose value isn't
+-- UTF-8, and one for each other missing variable
+abbrev pub AreFaultsOfTree : Option Forms → List Entry → Tree → (faults : List Fault) → Type 0
+AreFaultsOfTree forms entries t faults = (unreadable : List Fault) × (missing : List Fault)
+    × AreUnreadable forms entries (variables_of 0 t) unreadable
+    × AreMissing forms entries (all_missing 0 t (look_for forms (look_up_in entries))) missing
+    × IsPermutation (unreadable ++ missing) faults
 
--- the fault is that the form `at` is refused, at the form's position
-abbrev pub IsForm : FormAt → Fault → Type 0
-IsForm at it = (it.cause ≡ Form at.form) × (it.range.start ≡ at.position)
+-- the fault is the library's error for `f`, with the range of `f`
+abbrev pub IsErrorFor : (f : library.Fault) → Fault → Type 0
+IsErrorFor f it = (e : Error) × (it.cause ≡ Refused e) × (error_fault e ≡ Some f)
+    × (it.range ≡ range_of (Some f)) × (string_bytes it.path ≡ [])
 
--- the fault is the first refused form of a text
-abbrev pub IsFormIn : Grammar → List ℕ → Fault → Type 0
-IsFormIn g s it = (first : FormAt) × IsRefusalOf g s (errors.Refused first) × IsForm first it
+-- `faults` are those of a template: its only fault if it has no tree, and otherwise those of its tree
+abbrev pub AreFaultsBy : Option Forms → List Entry → (template : List ℕ) → (faults : List Fault) → Type 0
+AreFaultsBy forms entries template faults =
+    ((f : library.Fault) × (it : Fault) × HasFault 0 template f × IsErrorFor f it × (faults ≡ it ∷ []))
+    ⊎ ((t : Tree) × Spells t template × AreFaultsOfTree forms entries t faults)
 
--- the fault is the first refused form of another tool's text
-abbrev pub IsFormFault : Placeholders → List Entry → List ℕ → Fault → Type 0
-IsFormFault Own entries s it = ⊥
-IsFormFault (Chosen chosen) entries s it = IsFormIn (grammar_of chosen entries) s it
+-- the fault is that the form `at` is refused
+abbrev pub IsForm : (at : FormAt) → Fault → Type 0
+IsForm at it =
+    (it.cause ≡ Form at.form) × (it.range ≡ span_at at.position 1) × (string_bytes it.path ≡ [])
 
--- `it` is a fault of `s`, a text or byte string
-abbrev pub IsFaultOf : Placeholders → List Entry → List ℕ → Fault → Type 0
-IsFaultOf placeholders entries s it =
-    IsFormFault placeholders entries s it ⊎ IsFaultByTemplate placeholders entries s it
+-- `faults` are the refused forms of the text `s`, in order
+abbrev pub AreForms : Grammar → (s : List ℕ) → (faults : List Fault) → Type 0
+AreForms g s faults = (forms : List FormAt) × IsReading g s forms × AllZip IsForm forms faults
 
--- `s`, a text or byte string, has a fault
-abbrev pub IsFaulty : Placeholders → List Entry → List ℕ → Type 0
-IsFaulty placeholders entries s = (it : Fault) × IsFaultOf placeholders entries s it
+-- `faults` are those of `s`, a text or byte string: those of the template, or of another tool's text the
+-- refused forms, or else the faults of its template, each mapped back to `s`
+abbrev pub AreAllFaultsOf : Placeholders → List Entry → (s : List ℕ) → (faults : List Fault) → Type 0
+AreAllFaultsOf Own entries s faults = AreFaultsBy None entries s faults
+AreAllFaultsOf (Chosen chosen) entries s faults = AreForms (grammar_of chosen entries) s faults
+    ⊎ ((template : List ℕ) × IsTemplate (grammar_of chosen entries) chosen.missing s template
+    × (list : List Fault) × AreFaultsBy (Some chosen.forms) entries template list
+    × AllZip (IsMappedIn (grammar_of chosen entries) s template) list faults)
 
--- the fault is the first error of a refusal, at the error's position in the template
-abbrev pub IsFirstOf : Refusal → Fault → Type 0
-IsFirstOf refusal it = (it.cause ≡ Refused refusal.first)
-    × (it.range.start ≡ (range_of (error_fault refusal.first)).start)
+-- `faults` are those of `s`, a text or byte string, and there is at least one
+abbrev pub AreFaultsOf : Placeholders → List Entry → (s : List ℕ) → (faults : List Fault) → Type 0
+AreFaultsOf placeholders entries s faults = (¬ (faults ≡ [])) × AreAllFaultsOf placeholders entries s faults
 
--- the error is a missing variable, which is missing since its value isn't UTF-8
-abbrev pub lacks_unreadable : Option Forms → Variables → Error → Bool
-lacks_unreadable forms variables (error.NoSuchVariable e) =
-    has_unreadable variables (looked_up_name forms (string_bytes e.name))
-lacks_unreadable forms variables _ = false
+-- `s`, a text or byte string, has faults
+abbrev pub IsFaulty : Placeholders → List Entry → (s : List ℕ) → Type 0
+IsFaulty placeholders entries s = (faults : List Fault) × AreFaultsOf placeholders entries s faults
 
--- the bytes aren't UTF-8, and the fault reports this with a range that begins at the first invalid byte
+-- `faults` are those of `s` in some order
+abbrev pub AreShuffledFaultsOf : Placeholders → List Entry → (s : List ℕ) → (faults : List Fault) → Type 0
+AreShuffledFaultsOf placeholders entries s faults =
+    (list : List Fault) × AreFaultsOf placeholders entries s list × IsPermutation list faults
+
+-- `faults` are those of `s` in some order, or none if `s` has an output
+abbrev pub AreFaultsOrNone : Placeholders → List Entry → (s : List ℕ) → (faults : List Fault) → Type 0
+AreFaultsOrNone placeholders entries s faults =
+    ((faults ≡ []) × ((x : List ℕ) × GivesFor placeholders entries s x))
+    ⊎ AreShuffledFaultsOf placeholders entries s faults
+
+-- the bytes aren't UTF-8, and the fault reports this at the first invalid byte
 abbrev pub IsNoText : List ℕ → Fault → Type 0
 IsNoText s it = (it.cause ≡ NotUtf8) × (¬ (IsUtf8 s)) × IsValidUpTo s it.range.start
+    × (it.range ≡ span_at it.range.start 1)

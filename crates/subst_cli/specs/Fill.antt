@@ -107,21 +107,20 @@ looked_up_name _ name = name
 abbrev pub Agrees : List Entry → LookUp → Type 0
 Agrees entries look = (name : List ℕ) → ¬ (IsUnreadable entries name) → look name ≡ look_up_in entries name
 
--- the template expands to the output with the values of the entries; for a name whose value isn't UTF-8, any
--- value or none leads to this output
+-- the template has no name whose value isn't UTF-8, not even in a default that isn't used
+abbrev pub AreReadable : Option Forms → List Entry → List ℕ → Type 0
+AreReadable forms entries template = (t : Tree) → Spells t template
+    → All (λ name. ¬ (IsUnreadable entries (looked_up_name forms name))) (names_in t)
+
+-- the template expands to the output with the values of the entries, which are UTF-8
 abbrev pub GivesBy : Option Forms → List Entry → List ℕ → List ℕ → Type 0
-GivesBy forms entries template output =
-    (look : LookUp) → Agrees entries look → Answers template (look_for forms look) (Gives output)
+GivesBy forms entries template output = AreReadable forms entries template
+    × ((look : LookUp) → Agrees entries look → Answers template (look_for forms look) (Gives output))
 
 -- the source `s` expands to the output, as its template does
 abbrev pub GivesFor : Placeholders → List Entry → List ℕ → List ℕ → Type 0
 GivesFor placeholders entries s output = (template : List ℕ) × IsTemplateFor placeholders entries s template
     × GivesBy (forms_of placeholders) entries template output
-
--- the template looks up no variable whose value isn't UTF-8
-abbrev pub AreReadable : Option Forms → List Entry → List ℕ → Type 0
-AreReadable forms entries template = (t : Tree) → Spells t template
-    → All (λ name. ¬ (IsUnreadable entries (looked_up_name forms name))) (names_in t)
 
 -- if the answer is an output, `Becomes` holds for the string `s` and this output; nothing is required of a
 -- refusal

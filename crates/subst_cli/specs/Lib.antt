@@ -5,11 +5,16 @@ pub mod Faults
 pub mod Fill
 pub mod FormatRule
 pub mod Layers
+pub mod Listing
 pub mod MapBack
 pub mod Mark
+pub mod Messages
 pub mod Mistakes
+pub mod Positions
+pub mod Ranges
 pub mod Run
 pub mod Status
 pub mod Strings
 pub mod Templates
+pub mod ValuesFaults
 pub mod ValuesFile

@@ -1,8 +1,8 @@
 -- Faults of templates, mapped back to the texts from which the templates were converted.
-use Rattle.std.specs.Prelude.{◌≡◌, ◌==◌, ℕ, List, [], ◌∷◌, Option, Some, None, if◌then◌else◌, map, string_bytes}
+use Rattle.std.specs.Prelude.{◌≡◌, ◌==◌, ◌-◌, ℕ, List, [], ◌∷◌, Option, Some, None, if◌then◌else◌, length, map, string_bytes}
 use Rattle.std.specs.HashMap.{HashMap, get_by}
 use Rattle.std.specs.List.{zip, AllZip}
-use Rattle.std.specs.Option.{option_map, option_or}
+use Rattle.std.specs.Option.{option_map, option_map_or, option_or}
 use Rattle.subst.specs.Errors.error
 use Rattle.subst.specs.Grammar.{Grammar}
 use Rattle.subst.specs.Language.Sentence.{Spells}
@@ -10,8 +10,9 @@ use Rattle.subst.specs.Language.Tree.{Tree}
 use Rattle.subst.specs.Language.Variables.{variables_of}
 use Rattle.subst.specs.Reading.{variable_of, Listing, VariableAt}
 use Rattle.subst_cli.specs.Fill.{looked_up_name}
+use Rattle.subst_cli.specs.Ranges.{span_at}
 use Rattle.subst_cli.specs.declared.fault.Cause.{Cause}
-use Rattle.subst_cli.specs.declared.fault.Cause.TheVariants.{Refused, Unset}
+use Rattle.subst_cli.specs.declared.fault.Cause.TheVariants.{Refused, Unreadable, Unset}
 use Rattle.subst_cli.specs.declared.fault.Fault.{Fault}
 use Rattle.subst_foreign.specs.declared.forms.Forms.{Forms}
 use Rattle.subst_foreign.specs.declared.variables.TextVariable.{TextVariable as FoundVariable}
@@ -40,11 +41,19 @@ IsMappedCause forms (Refused (error.NoSuchVariable e)) (Unset mapped) =
 IsMappedCause forms (Refused (error.NoSuchVariable e)) _ = ⊥
 IsMappedCause forms x it = it ≡ x
 
--- `it` is the fault `x` of a template, mapped back to this variable of the text, or unmoved if there is no
+-- the length of a fault's range in the text: that of the name in the cause, or else `len`, the length in the
+-- template
+abbrev pub len_in_text : Cause → (len : ℕ) → ℕ
+len_in_text (Unset unset) len = length (string_bytes unset.name)
+len_in_text (Unreadable name) len = length (string_bytes name)
+len_in_text _ len = len
+
+-- `it` is the fault `x` of a template, mapped back to the variable `found` of the text, or unmoved without a
 -- variable
-abbrev pub IsMappedAt : Forms → Option VariableAt → Fault → Fault → Type 0
-IsMappedAt forms (Some v) x it = (it.range.start ≡ v.position) × IsMappedCause forms x.cause it.cause
-IsMappedAt forms None x it = (it.range.start ≡ x.range.start) × IsMappedCause forms x.cause it.cause
+abbrev pub IsMappedAt : Forms → (found : Option VariableAt) → (x it : Fault) → Type 0
+IsMappedAt forms found x it = IsMappedCause forms x.cause it.cause × (it.path ≡ x.path)
+    × (it.range ≡ span_at (option_map_or (λ v. v.position) found x.range.start)
+    (len_in_text it.cause (x.range.end - x.range.start)))
 
 -- `it` is the fault `x` of `template`, mapped back to the text `s`. If the template has a variable at the
 -- position of `x`, `it` is at that variable's counterpart in `s`.

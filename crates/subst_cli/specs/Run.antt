@@ -1,12 +1,12 @@
 -- The entries and the refusals of a run over sources.
-use Rattle.std.specs.Prelude.{◌≡◌, ◌⊎◌, ◌++◌, ℕ, List, [], None, filter, if◌then◌else◌, map, not, vec_items}
-use Rattle.std.specs.List.{Any, Contains}
-use Rattle.subst_cli.specs.Documents.{IsDocumentFault}
-use Rattle.subst_cli.specs.Faults.{IsFaultOf, IsNoText}
+use Rattle.std.specs.Prelude.{◌≡◌, ◌⊎◌, ◌++◌, ◌∷◌, ℕ, List, [], filter, if◌then◌else◌, map, not, vec_items}
+use Rattle.subst_cli.specs.Documents.{AreDocumentFaults}
+use Rattle.subst_cli.specs.Faults.{AreFaultsOf, IsNoText}
+use Rattle.subst_cli.specs.Fill.{IsSourceOutput}
 use Rattle.subst_cli.specs.FormatRule.{format_of_source}
 use Rattle.subst_cli.specs.Layers.{Entry, entries_of, environment_of, above, escaped, entries_of_pairs, in_order, is_empty}
 use Rattle.subst_cli.specs.Mark.{filled_of}
-use Rattle.subst_cli.specs.ValuesFile.{value_bytes, values_of}
+use Rattle.subst_cli.specs.ValuesFaults.{HasOne}
 use Rattle.subst_cli.specs.declared.fault.Fault.{Fault}
 use Rattle.subst_cli.specs.declared.format_rule.FormatRule.{FormatRule}
 use Rattle.subst_cli.specs.declared.layers.Layers.{Layers}
@@ -16,8 +16,6 @@ use Rattle.subst_cli.specs.declared.options.Options.{Options}
 use Rattle.subst_cli.specs.declared.options.Placeholders.{Placeholders}
 use Rattle.subst_cli.specs.declared.source.Refused.{Refused}
 use Rattle.subst_cli.specs.declared.source.Source.{Source}
-use Rattle.subst_cli.specs.declared.values_file.ValuesSource.{ValuesSource}
-use Rattle.subst_cli.specs.declared.values_file.ValuesSource.TheVariants.{Lines, Value}
 
 -- the bytes of a source
 abbrev pub bytes_of : Source → List ℕ
@@ -39,35 +37,30 @@ entries_for options read = map (escaped options.escape) (kept_for options
     (in_order (above_for options read) (entries_of read.dotenv.items)
     (entries_of read.defaults.items ++ entries_of_pairs options.defaults.items)))
 
--- `it` is a fault of `s`, in this format; `s` are the bytes of a source that are filled in
-abbrev pub IsFaultIn : InputFormat → Placeholders → List Entry → List ℕ → Fault → Type 0
-IsFaultIn Text placeholders entries s it = IsNoText s it ⊎ IsFaultOf placeholders entries s it
-IsFaultIn Bytes placeholders entries s it = IsFaultOf placeholders entries s it
-IsFaultIn (Document format) placeholders entries s it =
-    IsNoText s it ⊎ IsDocumentFault format placeholders entries s it
+-- `faults` are those of `s`, in this format; `s` are the bytes of a source that are filled in
+abbrev pub AreFaultsIn : InputFormat → Placeholders → List Entry → (s : List ℕ) → (faults : List Fault) → Type 0
+AreFaultsIn Text placeholders entries s faults =
+    HasOne (IsNoText s) faults ⊎ AreFaultsOf placeholders entries s faults
+AreFaultsIn Bytes placeholders entries s faults = AreFaultsOf placeholders entries s faults
+AreFaultsIn (Document format) placeholders entries s faults =
+    HasOne (IsNoText s) faults ⊎ AreDocumentFaults format placeholders entries s faults
 
--- at least one of `faults` is a fault of the source `s`, in this format
-abbrev pub StatesFault : InputFormat → Placeholders → List Entry → List ℕ → List Fault → Type 0
-StatesFault form placeholders entries s faults =
-    Any (IsFaultIn form placeholders entries (filled_of form s)) faults
+-- `faults` are those of the source `s` in this format
+abbrev pub AreFaultsFor : InputFormat → Placeholders → List Entry → (s : List ℕ) → (faults : List Fault) → Type 0
+AreFaultsFor form placeholders entries s faults =
+    AreFaultsIn form placeholders entries (filled_of form s) faults
 
--- `it` is a refusal of one of `sources`: one of the faults in `it` is a fault of that source, in the source's
--- format by `rule`
-abbrev pub IsRefusalOf : FormatRule → Placeholders → List Entry → List Source → Refused → Type 0
-IsRefusalOf rule placeholders entries sources it = Contains sources it.source
-    × StatesFault (format_of_source rule it.source) placeholders entries (bytes_of it.source) it.faults.items
+-- `it` is the refusal of the source: the source itself, with its faults in its format by `rule`
+abbrev pub IsRefusalOf : FormatRule → Placeholders → List Entry → Source → Refused → Type 0
+IsRefusalOf rule placeholders entries source it = (it.source ≡ source)
+    × AreFaultsFor (format_of_source rule source) placeholders entries (bytes_of source) it.faults.items
 
--- `it` is a fault of a values file with the bytes `s`: the bytes aren't UTF-8, or a line is wrong
-abbrev pub IsFaultOfLines : List ℕ → Fault → Type 0
-IsFaultOfLines s it = IsNoText s it ⊎ (values_of s ≡ None)
-
--- `it` is a refusal of the file: one of the faults in `it` is a fault of the file
-abbrev pub IsFaultOfFile : ValuesSource → Refused → Type 0
-IsFaultOfFile (Lines source) it =
-    (it.source ≡ source) × Any (IsFaultOfLines (bytes_of source)) it.faults.items
-IsFaultOfFile (Value name line_end source) it =
-    (it.source ≡ source) × Any (IsNoText (value_bytes line_end (bytes_of source))) it.faults.items
-
--- `it` is a refusal of one of `files`: one of the faults in `it` is a fault of that file
-abbrev pub IsRefusedFile : List ValuesSource → Refused → Type 0
-IsRefusedFile files it = (file : ValuesSource) × Contains files file × IsFaultOfFile file it
+-- each of `sources` has an output or is refused, and `refused` are the refusals, in order
+abbrev pub AreRefusals : FormatRule → Placeholders → List Entry → (sources : List Source)
+    → (refused : List Refused) → Type 0
+AreRefusals rule placeholders entries [] refused = refused ≡ []
+AreRefusals rule placeholders entries (source ∷ sources) refused =
+    ((x : List ℕ) × IsSourceOutput rule placeholders entries source x
+    × AreRefusals rule placeholders entries sources refused)
+    ⊎ ((it : Refused) × (more : List Refused) × IsRefusalOf rule placeholders entries source it
+    × AreRefusals rule placeholders entries sources more × (refused ≡ it ∷ more))

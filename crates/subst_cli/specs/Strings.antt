@@ -1,8 +1,7 @@
 -- The outputs and faults of a document's strings.
 use Rattle.std.specs.Prelude.{◌≡◌, ◌⊎◌, ℕ, List, [], IfNone, IsSomeAnd}
-use Rattle.std.specs.List.{Any}
 use Rattle.subst.specs.Language.Answer.{Answer, Gives, Refuses}
-use Rattle.subst_cli.specs.Faults.{IsFaulty}
+use Rattle.subst_cli.specs.Faults.{AreShuffledFaultsOf, IsFaulty}
 use Rattle.subst_cli.specs.Fill.{GivesFor}
 use Rattle.subst_cli.specs.Layers.{Entry, AreVariablesOf}
 use Rattle.subst_cli.specs.declared.document.filler.StringFiller.{StringFiller}
@@ -24,8 +23,8 @@ AnswersBy filler s (Refuses f) =
 abbrev pub GivesSome : StringFiller → List ℕ → Type 0
 GivesSome filler s = (x : List ℕ) × AnswersBy filler s (Gives x)
 
--- `faults` is empty and `IsFine` holds; or one of `faults` satisfies `IsSo` with the entries of the filler's
--- variables
-abbrev pub AreFaults : StringFiller → Type 0 → (List Entry → Fault → Type 0) → List Fault → Type 0
-AreFaults filler IsFine IsSo faults = ((faults ≡ []) × IsFine)
-    ⊎ ((entries : List Entry) → FillsFrom filler entries → Any (IsSo entries) faults)
+-- `faults` are those of the string `s` in some order, or none if the filler has an output for `s`
+abbrev pub AreFaults : StringFiller → (s : List ℕ) → (faults : List Fault) → Type 0
+AreFaults filler s faults = ((faults ≡ []) × GivesSome filler s)
+    ⊎ ((entries : List Entry) → FillsFrom filler entries
+    → AreShuffledFaultsOf filler.placeholders.now entries s faults)

@@ -1,9 +1,10 @@
 -- The entries of values files, which have NAME=VALUE lines or a single value.
-use Rattle.std.specs.Prelude.{◌==◌, ◌-◌, ℕ, Bool, true, ◌||◌, List, [], ◌∷◌, ◌++◌, length, take, drop, Option, Some, None, option_map, string_bytes, if◌then◌else◌}
+use Rattle.std.specs.Prelude.{◌==◌, ◌-◌, ℕ, Bool, true, ◌||◌, List, [], ◌∷◌, ◌++◌, codes, length, take, drop, Option, Some, None, option_map, string_bytes, if◌then◌else◌}
 use Rattle.std.specs.List.{slice_split}
 use Rattle.std.specs.Str.{bytes_eq, is_utf8}
 use Rattle.subst_cli.specs.Layers.{Entry, entry_in}
 use Rattle.subst_cli.specs.Mark.{after_mark}
+use Rattle.subst_filter_lib.specs.Arguments.{is_pair}
 use Rattle.subst_cli.specs.declared.options.LineEnd.{LineEnd}
 use Rattle.subst_cli.specs.declared.options.LineEnd.TheVariants.{Removed, Kept}
 use Rattle.subst_cli.specs.declared.values_file.ValuesSource.{ValuesSource}
@@ -65,6 +66,10 @@ parsed_after_blanks line = if is_ignored line then Nothing else entry_or_wrong (
 abbrev pub parsed : List ℕ → Line
 parsed line = parsed_after_blanks (after_blanks (without_return line))
 
+-- the message of a wrong line, which depends on whether the line has an `=`
+abbrev pub message_of : List ℕ → List ℕ
+message_of line = if is_pair line then codes "not a variable name" else codes "missing '='"
+
 -- `entries` followed by `later`, which are the entries of later lines or files; none if `later` is none
 abbrev pub before : List Entry → Option (List Entry) → Option (List Entry)
 before entries later = option_map (λ more. entries ++ more) later
@@ -80,9 +85,13 @@ abbrev pub values_of_lines : List (List ℕ) → Option (List Entry)
 values_of_lines [] = Some []
 values_of_lines (line ∷ lines) = with_line (parsed line) (values_of_lines lines)
 
--- the entries of a values file, in the order of its lines, or none if a line is wrong
+-- the lines of a values file
+abbrev pub lines_in : List ℕ → List (List ℕ)
+lines_in bytes = slice_split is_line_feed (after_mark bytes)
+
+-- the entries of a values file, in the order of its lines, or none if it isn't UTF-8 or a line is wrong
 abbrev pub values_of : List ℕ → Option (List Entry)
-values_of bytes = values_of_lines (slice_split is_line_feed (after_mark bytes))
+values_of bytes = if is_utf8 bytes then values_of_lines (lines_in bytes) else None
 
 -- the entries of a file followed by `later`, the entries of later files; none if one of these files is
 -- refused

@@ -1,14 +1,11 @@
 //! Fills in the strings of documents, and returns their faults and variables.
 
-ghost use Rattle.std.specs.Prelude.{◌≡◌, ◌++◌, ℕ, List, IfErr, IfOk, OnOk, string_bytes};
-ghost use Rattle.std.specs.List.{All, Any};
-ghost use Rattle.subst_document.specs.Edits.{text_at};
+ghost use Rattle.std.specs.Prelude.{◌≡◌, ◌++◌, List, IfErr, IfOk, OnOk, string_bytes};
 ghost use Rattle.subst_cli.specs.Documents as documents;
-ghost use Rattle.subst_cli.specs.Documents.{format_of, AreReported, FindsIn, IsDocumentFault, IsFaultOfOne};
+ghost use Rattle.subst_cli.specs.Documents.{format_of, AreDocumentFaults, AreFaultsOfStrings, AreReported, FindsIn};
 ghost use Rattle.subst_cli.specs.Fill.{GivesFor, IsDocumentOutput};
 ghost use Rattle.subst_cli.specs.Layers.{Entry};
-ghost use Rattle.subst_cli.specs.Strings.{AreFaults, FillsFrom, GivesSome};
-ghost use Rattle.subst_cli.specs.declared.fault.Cause.TheVariants as cause;
+ghost use Rattle.subst_cli.specs.Strings.{FillsFrom};
 ghost use Rattle.subst_cli.specs.declared.fault.Fault.{Fault as SpecFault};
 
 use crate::fault::{Cause, Fault, one_fault};
@@ -41,8 +38,8 @@ pub(crate) fn fill(
         IsDocumentOutput format (GivesFor filler.now.placeholders.now entries) text.now
         (string_bytes output))) }
     ensures refused { (entries : List Entry) → FillsFrom filler.now entries
-        → IfOk result (λ outcome. IfErr outcome (λ faults. Any
-        (IsDocumentFault format filler.now.placeholders.now entries text.now) faults.items)) }
+        → IfOk result (λ outcome. IfErr outcome (λ faults. AreDocumentFaults format
+        filler.now.placeholders.now entries text.now faults.items)) }
 {
     match format.fill_in(alloc, text, filler)? {
         Ok(output) => Ok(Ok(output)),
@@ -65,7 +62,7 @@ pub(crate) fn uses(
     let strings = match format.strings(alloc, text)? {
         Ok(strings) => strings,
         Err(Unfilled::Unread(range, cause)) => return Ok(Err(one_fault(alloc, range, cause)?)),
-        Err(Unfilled::Refused) => return Ok(Err(not_confirmed(alloc)?)),
+        Err(Unfilled::Refused) => return Ok(Err(one_fault(alloc, 0..0, Cause::NotConfirmed)?)),
     };
     let mut finder = Finder::new(alloc, format, text)?;
     let mut all = Vec::new(alloc);
@@ -112,27 +109,20 @@ fn faults_in(
     filler: &StringFiller<'_, '_, '_>,
 ) -> Result<Vec<Fault>, AllocError>
     ensures { (entries : List Entry) → FillsFrom filler.now entries
-        → IfOk result (λ faults. Any
-        (IsDocumentFault format filler.now.placeholders.now entries text.now) faults.items) }
+        → IfOk result (λ faults. AreDocumentFaults format filler.now.placeholders.now entries
+        text.now faults.items) }
 {
     let strings = match format.refused(alloc, text, filler)? {
         Ok(strings) => strings,
         Err(Unfilled::Unread(range, cause)) => return one_fault(alloc, range, cause),
-        Err(Unfilled::Refused) => return not_confirmed(alloc),
+        Err(Unfilled::Refused) => return one_fault(alloc, 0..0, Cause::NotConfirmed),
     };
     let faults = faults_of(alloc, format, text, filler, strings)?;
     if faults.is_empty() {
-        not_confirmed(alloc)
+        one_fault(alloc, 0..0, Cause::NotConfirmed)
     } else {
         Ok(faults)
     }
-}
-
-/// Returns the fault of a document whose output, or whose strings' positions, can't be confirmed.
-fn not_confirmed(alloc: Global) -> Result<Vec<Fault>, AllocError>
-    ensures { IfOk result (λ faults. Any (λ it. it.cause ≡ cause.NotConfirmed) faults.items) }
-{
-    one_fault(alloc, 0..0, Cause::NotConfirmed)
 }
 
 /// Returns the faults of `strings`, the refused strings of the document `text`, with ranges in `text`.
@@ -143,10 +133,9 @@ fn faults_of(
     filler: &StringFiller<'_, '_, '_>,
     strings: Vec<RefusedAt>,
 ) -> Result<Vec<Fault>, AllocError>
-    ensures { IfOk result (λ faults. AreFaults filler.now
-        (All (λ one. GivesSome filler.now (text_at one.1)) strings.items)
-        (λ entries. IsFaultOfOne format filler.now.placeholders.now entries text.now strings.items)
-        faults.items) }
+    ensures { (entries : List Entry) → FillsFrom filler.now entries
+        → IfOk result (λ faults. AreFaultsOfStrings format filler.now.placeholders.now entries
+        text.now strings.items faults.items) }
 {
     let mut finder = Finder::new(alloc, format, text)?;
     let mut all = Vec::new(alloc);

@@ -1,12 +1,13 @@
 //! Parses `.env` files. Values may use variables of higher precedence, and those that earlier lines set.
 
-ghost use Rattle.std.specs.Prelude.{◌≡◌, ◌<◌, ◌∷◌, ◌++◌, ℕ, [], None, Some, IfErr, IfOk, IfSome, List, OnOk, length, map, string_bytes, if◌then◌else◌};
-ghost use Rattle.std.specs.List.{Any};
+ghost use Rattle.std.specs.Prelude.{◌≡◌, ◌<◌, ◌∷◌, ◌++◌, ℕ, [], IsUtf8, None, Some, IfErr, IfOk, List, OnOk, length, map, string_bytes, if◌then◌else◌};
 ghost use Rattle.std.specs.Str.{bytes_eq};
-ghost use Rattle.subst_cli.specs.Dotenv.{setting, value_in, FilesLeave, GoesOn, HasLast, IsFaultOfFile, IsFirstRefused, Leaves, Stops};
+ghost use Rattle.subst_cli.specs.Dotenv.{setting, value_in, FilesLeave, GoesOn, HasLast, IsFaultOfFile, IsFirstRefused, IsFirstRefusedLine, Leaves, Stops};
 ghost use Rattle.subst_cli.specs.Layers.{ForEntries, entries_of};
 ghost use Rattle.subst_cli.specs.Mark.{after_mark};
 ghost use Rattle.subst_cli.specs.Run.{bytes_of};
+ghost use Rattle.subst_cli.specs.ValuesFaults.{HasOne};
+ghost use Rattle.subst_cli.specs.ValuesFile as file;
 
 use crate::entry::Entry;
 use crate::fault::{Cause, one_fault};
@@ -33,15 +34,6 @@ pub struct Settings {
     pub entries: Vec<Entry>,
     /// The last value of each name.
     pub values: HashMap<String, String>,
-}
-
-/// The fault of a refused line of a `.env` file. Later lines aren't read.
-#[derive(Drop)]
-struct LineFault {
-    /// The cause.
-    pub cause: Cause,
-    /// The byte offset of the line in the file, after the line's leading blanks.
-    pub start: usize,
 }
 
 /// Parses `.env` files; `above` are the variables of higher precedence. Returns the files' settings in order,
@@ -90,10 +82,10 @@ fn add_file(
     requires { HasLast set.now }
     ensures last { IfOk result (λ outcome. IfOk outcome (λ _. HasLast set.new)) }
     ensures leaves { ForEntries above.now (λ above. IfOk result (λ outcome. IfOk outcome (λ _.
-        Leaves above (entries_of set.old.entries.items) (after_mark (bytes_of source.now))
-        (entries_of set.new.entries.items)))) }
+        IsUtf8 (bytes_of source.now) × Leaves above (entries_of set.old.entries.items)
+        (after_mark (bytes_of source.now)) (entries_of set.new.entries.items)))) }
     ensures refused { ForEntries above.now (λ above. IfOk result (λ outcome. IfErr outcome
-        (λ faults. Any (IsFaultOfFile above (entries_of set.old.entries.items)
+        (λ faults. HasOne (IsFaultOfFile above (entries_of set.old.entries.items)
         (bytes_of source.now)) faults.items))) }
 {
     if text_of(&source.bytes).is_none() {
@@ -104,10 +96,7 @@ fn add_file(
         positions: Positions::of(&source.bytes),
         unset,
     };
-    match add_lines(alloc, &source.bytes, above, set, &mut hints)? {
-        None => Ok(Ok(())),
-        Some(LineFault { cause, start }) => Ok(Err(one_fault(alloc, start..start, cause)?)),
-    }
+    add_lines(alloc, &source.bytes, above, set, &mut hints)
 }
 
 /// Appends the settings of a file's lines to `set`. Stops at the first refused line, and returns its fault.
@@ -121,24 +110,25 @@ fn add_lines(
     above: &Variables<'_>,
     set: &mut Settings,
     hints: &mut Hints<'_, '_>,
-) -> Result<Option<LineFault>, AllocError>
+) -> Result<OrFaults<()>, AllocError>
     requires { HasLast set.now }
-    ensures last { IfOk result (λ fault. fault ≡ None → HasLast set.new) }
-    ensures leaves { ForEntries above.now (λ above. IfOk result (λ fault. fault ≡ None
-        → Leaves above (entries_of set.old.entries.items) (after_mark bytes.now)
-        (entries_of set.new.entries.items))) }
-    ensures stops { ForEntries above.now (λ above. IfOk result (λ fault. IfSome fault
-        (λ it. Stops above (entries_of set.old.entries.items) (after_mark bytes.now) it.cause))) }
+    ensures last { IfOk result (λ outcome. IfOk outcome (λ _. HasLast set.new)) }
+    ensures leaves { ForEntries above.now (λ above. IfOk result (λ outcome. IfOk outcome (λ _.
+        Leaves above (entries_of set.old.entries.items) (after_mark bytes.now)
+        (entries_of set.new.entries.items)))) }
+    ensures stops { ForEntries above.now (λ above. IfOk result (λ outcome. IfErr outcome (λ faults.
+        HasOne (IsFirstRefusedLine above (entries_of set.old.entries.items) bytes.now)
+        faults.items))) }
 {
     let (_, mut rest) = split_mark(bytes);
     while !rest.is_empty() {
         let start = bytes.len().saturating_sub(after_blanks(rest).len());
         match add_line(alloc, rest, above, set, hints, start)? {
             Ok(later) => rest = later,
-            Err(cause) => return Ok(Some(LineFault { cause, start })),
+            Err(cause) => return Ok(Err(one_fault(alloc, start..start, cause)?)),
         }
     }
-    Ok(None)
+    Ok(Ok(()))
 }
 
 /// Appends the setting of a text's first line, if any. Returns the text after the line, or the cause of the
@@ -161,7 +151,7 @@ fn add_line<'t>(
         (GoesOn above (entries_of set.old.entries.items) text.now
         (entries_of set.new.entries.items)))) }
     ensures stops { ForEntries above.now (λ above. IfOk result (λ outcome. IfErr outcome
-        (Stops above (entries_of set.old.entries.items) text.now))) }
+        (Stops above (entries_of set.old.entries.items) text.now (file.after_blanks text.now)))) }
     ensures shorter { 0 < length text.now → IfOk result (λ outcome. IfOk outcome
         (λ later. length later.now < length text.now)) }
 {

@@ -1,6 +1,11 @@
 //! Excerpts: the line of a source in which a fault begins, with the fault underlined. A long line is cut
 //! around the fault.
 
+ghost use Rattle.std.specs.Prelude.{◌≡◌, ◌≤◌, ℕ, List, length, IfOk, string_bytes};
+ghost use Rattle.std.specs.Str.{IsAscii};
+ghost use Rattle.subst.specs.Highlighting.{underlined};
+ghost use Rattle.subst_cli.specs.Messages.{IsShown, IsUnderlinedLine};
+
 use crate::terminal::{are_printable, printable};
 use std::alloc::{AllocError, Global};
 use std::ops::Range;
@@ -27,7 +32,9 @@ pub(crate) fn excerpt(
     alloc: Global,
     source: &[u8],
     range: Range<usize>,
-) -> Result<String, AllocError> {
+) -> Result<String, AllocError>
+    ensures { IfOk result (λ text. IsUnderlinedLine (string_bytes text)) }
+{
     let line = around(source, range.start);
     let marked = part(source, range.start..range.end.min(line.end));
     let before = Piece {
@@ -136,7 +143,9 @@ fn underlined(
     before: &Piece,
     after: &Piece,
     carets: usize,
-) -> Result<String, AllocError> {
+) -> Result<String, AllocError>
+    ensures { IfOk result (λ text. IsUnderlinedLine (string_bytes text)) }
+{
     let right = WIDEST
         .saturating_sub(before.width())
         .max(WIDEST / 2)
@@ -190,7 +199,9 @@ fn last_columns(text: &str, columns: usize) -> &str {
 
 /// Cuts a text to `columns` columns and appends the mark of a cut. A text that isn't wider is returned
 /// unchanged.
-pub(crate) fn cut(alloc: Global, text: String, columns: usize) -> Result<String, AllocError> {
+pub(crate) fn cut(alloc: Global, text: String, columns: usize) -> Result<String, AllocError>
+    ensures { IfOk result (λ shown. IsShown columns (string_bytes text) (string_bytes shown)) }
+{
     let start = first_columns(&text, columns);
     if start.len() < text.len() {
         format!(in alloc; "{start}{CUT}")
@@ -200,7 +211,9 @@ pub(crate) fn cut(alloc: Global, text: String, columns: usize) -> Result<String,
 }
 
 /// Returns the start of a text, as far as it fits in `columns` columns.
-fn first_columns(text: &str, columns: usize) -> &str {
+fn first_columns(text: &str, columns: usize) -> &str
+    ensures { IsAscii text.now → length text.now ≤ columns → result.now ≡ text.now }
+{
     if text.is_ascii() {
         return text.get(..columns.min(text.len())).unwrap_or("");
     }

@@ -1,12 +1,11 @@
 //! The expansion of sources: the output of each, or its refusal. No file is read or written here.
 
 ghost use Rattle.std.specs.Prelude.{◌≡◌, ◌++◌, ◌∷◌, [], ◌⊎◌, ℕ, List, IfErr, IfOk, IsTrue, OnOk, filter, if◌then◌else◌, map, not, string_bytes, vec_items};
-ghost use Rattle.std.specs.List.{All};
 ghost use Rattle.subst_cli.specs.Fill.{AreOutputs, IsOutput, IsSourceOutput};
 ghost use Rattle.subst_cli.specs.Layers.{Entry as SpecEntry, ForEntries, entries_of, environment_of, is_empty};
 ghost use Rattle.subst_cli.specs.Dotenv.{FilesLeave, IsFirstRefused};
 ghost use Rattle.subst_cli.specs.FormatRule.{format_of_source};
-ghost use Rattle.subst_cli.specs.Run.{above_for, bytes_of, entries_for, kept_for, IsRefusalOf, StatesFault};
+ghost use Rattle.subst_cli.specs.Run.{above_for, bytes_of, entries_for, kept_for, AreFaultsFor, AreRefusals, IsRefusalOf};
 ghost use Rattle.subst_cli.specs.Strings.{FillsFrom};
 ghost use Rattle.subst_cli.specs.declared.source.Refused.{Refused as SpecRefused};
 
@@ -48,8 +47,8 @@ pub fn fill_in(
         options.now.placeholders entries sources.items all.items)) }
     ensures refused { let entries = entries_for options.now read in
         IfOk result (λ outputs. IfErr outputs (λ refused. (¬ (refused.items ≡ []))
-        × All (IsRefusalOf options.now.formats options.now.placeholders entries
-        sources.items) refused.items)) }
+        × AreRefusals options.now.formats options.now.placeholders entries sources.items
+        refused.items)) }
 {
     let entries = all_entries(alloc, options, read)?;
     let variables = Variables::of(alloc, &entries)?;
@@ -182,8 +181,8 @@ impl<'r, 'w, 'v> Expander<'r, 'w, 'v> {
             sources.items all.items))) }
         ensures refused { ForEntries self.now.variables (λ entries. IfOk result (λ outputs.
             IfErr outputs (λ refused. (¬ (refused.items ≡ []))
-            × All (IsRefusalOf self.now.formats self.now.placeholders.now entries
-            sources.items) refused.items))) }
+            × AreRefusals self.now.formats self.now.placeholders.now entries sources.items
+            refused.items))) }
     {
         let mut all = Vec::new(alloc);
         let mut refused = Vec::new(alloc);
@@ -209,7 +208,7 @@ impl<'r, 'w, 'v> Expander<'r, 'w, 'v> {
             × IsSourceOutput self.now.formats self.now.placeholders.now entries source x
             × (all.new.items ≡ all.old.items ++ x) × (refused.new.items ≡ refused.old.items))
             ⊎ ((it : SpecRefused) × IsRefusalOf self.now.formats self.now.placeholders.now entries
-            (source ∷ []) it × (refused.new.items ≡ refused.old.items ++ it ∷ [])))) }
+            source it × (refused.new.items ≡ refused.old.items ++ it ∷ [])))) }
     {
         if self.is_its_own_output(&source) {
             return append(all, source.bytes);
@@ -255,7 +254,7 @@ impl<'r, 'w, 'v> Expander<'r, 'w, 'v> {
             IfOk outcome (λ output. IsSourceOutput self.now.formats self.now.placeholders.now
             entries source.now output.items))) }
         ensures refused { ForEntries self.now.variables (λ entries. IfOk result (λ outcome.
-            IfErr outcome (λ faults. StatesFault (format_of_source self.now.formats source.now)
+            IfErr outcome (λ faults. AreFaultsFor (format_of_source self.now.formats source.now)
             self.now.placeholders.now entries source.now.bytes.items faults.items))) }
     {
         self.fill_as(alloc, self.formats.format_of(&source.path), &source.bytes)
@@ -272,7 +271,7 @@ impl<'r, 'w, 'v> Expander<'r, 'w, 'v> {
             IfOk outcome (λ output. IsOutput format self.now.placeholders.now entries
             source.now output.items))) }
         ensures refused { ForEntries self.now.variables (λ entries. IfOk result (λ outcome.
-            IfErr outcome (λ faults. StatesFault format self.now.placeholders.now entries
+            IfErr outcome (λ faults. AreFaultsFor format self.now.placeholders.now entries
             source.now faults.items))) }
     {
         let (kept, filled) = split_source(format, source);

@@ -1,7 +1,8 @@
 //! Faults of a source: their causes, ranges and messages.
 
-ghost use Rattle.std.specs.Prelude.{◌≡◌, ◌∷◌, [], IfOk};
-ghost use Rattle.subst_cli.specs.declared.fault.Fault.{Fault as SpecFault};
+ghost use Rattle.std.specs.Prelude.{◌≡◌, IfOk, length};
+ghost use Rattle.subst_cli.specs.Ranges.{span_at};
+ghost use Rattle.subst_cli.specs.ValuesFaults.{HasOne};
 
 use crate::document::Mistake;
 use std::alloc::{AllocError, Global};
@@ -60,6 +61,11 @@ pub struct Unset {
 }
 
 impl fmt::Display for Unset {
+    ghost use Rattle.std.specs.Prelude.{Some};
+    ghost use Rattle.subst_cli.specs.Messages.{text_of_unset};
+
+    ghost output = { λ it. Some (text_of_unset it) };
+
     fn fmt<W: fmt::Write>(&self, f: &mut fmt::Formatter<W>) -> fmt::Result {
         let name = &self.name;
         if self.is_empty {
@@ -76,6 +82,10 @@ impl fmt::Display for Unset {
 }
 
 impl fmt::Display for Cause {
+    ghost use Rattle.subst_cli.specs.Messages.{text_of};
+
+    ghost output = { text_of };
+
     fn fmt<W: fmt::Write>(&self, f: &mut fmt::Formatter<W>) -> fmt::Result {
         match self {
             Cause::Refused(e) => write!(f, "{e}"),
@@ -109,8 +119,8 @@ pub(crate) fn one_fault(
     range: Range<usize>,
     cause: Cause,
 ) -> Result<Vec<Fault>, AllocError>
-    ensures { IfOk result (λ faults. (fault : SpecFault) × (faults.items ≡ fault ∷ [])
-        × (fault.cause ≡ cause) × (fault.range ≡ range)) }
+    ensures { IfOk result (λ faults.
+        HasOne (λ it. (it.cause ≡ cause) × (it.range ≡ range)) faults.items) }
 {
     let mut faults = Vec::new(alloc);
     faults.push(Fault {
@@ -123,7 +133,7 @@ pub(crate) fn one_fault(
 
 /// Returns the byte range of a name that begins at a position.
 pub(crate) fn range_of_name(position: usize, name: &str) -> Range<usize>
-    ensures { result.start ≡ position }
+    ensures { result ≡ span_at position (length name.now) }
 {
     position..position.saturating_add(name.len())
 }

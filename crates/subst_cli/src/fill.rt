@@ -1,14 +1,16 @@
 //! The expansion of one byte string, or its refusal.
 
-ghost use Rattle.std.specs.Prelude.{◌≡◌, ◌<◌, ◌^◌, ℕ, List, IfOk, IfErr, IsSomeAnd};
-ghost use Rattle.subst.specs.ErrorFault.{error_fault};
-ghost use Rattle.subst.specs.Language.Answer.{Answers, Gives, Refuses};
-ghost use Rattle.subst.specs.Range.{range_of};
+ghost use Rattle.std.specs.Prelude.{◌≡◌, ℕ, List, IfOk, IfErr};
+ghost use Rattle.subst.specs.Calls.Clauses.{ListsMissing};
+ghost use Rattle.subst.specs.Language.Answer.{Answers, Gives};
+ghost use Rattle.subst_cli.specs.Faults.{IsRefusalUnder};
 ghost use Rattle.subst_cli.specs.Fill.{look_for, look_up_of};
 ghost use Rattle.subst_filter_lib.specs.Arguments.{value_under};
 
+use crate::part::no_faults;
 use std::alloc::{AllocError, Global};
-use subst::error::{NoSuchVariable, ParseError};
+use std::ops::Range;
+use subst::error::NoSuchVariable;
 use subst::foreign::Forms;
 use subst::{ByteTemplate, Error, NoEmpty, OneOf, ShellMap, VariableMap, substitute_bytes};
 use subst_filter_lib::values::Values;
@@ -64,12 +66,11 @@ impl<'m> VariableMap<'m> for LookUpValues<'m, '_> {
 
 /// The refusal of a source.
 #[derive(Debug, Drop)]
-pub(crate) struct Refusal {
-    /// The first fault.
-    pub first: Error,
-    /// The missing variables after `first`, in order. There are none unless `first` is a missing variable.
-    pub others: Vec<NoSuchVariable>,
-    pub ghost fits: { (range_of (error_fault first)).end < 2 ^ 64 },
+pub(crate) enum Refusal {
+    /// The source isn't a template. The error has this range.
+    NotATemplate(Range<usize>, Error),
+    /// Variables are missing. The list has all of them, in order.
+    Missing(Vec<NoSuchVariable>),
 }
 
 /// The output of a source, or its refusal.
@@ -88,35 +89,43 @@ pub(crate) fn bytes(
     ensures gives { IfOk result (λ filled. IfOk filled
         (λ output. Answers source.now (look_up_of values.now) (Gives output.items))) }
     ensures refuses { IfOk result (λ filled. IfErr filled
-        (λ refusal. IsSomeAnd (error_fault refusal.first)
-        (λ f. Answers source.now (look_up_of values.now) (Refuses f)))) }
+        (IsRefusalUnder (look_up_of values.now) source.now)) }
 {
     match substitute_bytes(alloc, source, values) {
         Ok(output) => Ok(Ok(output)),
-        Err(first) => {
-            if let Error::OutOfMemory(e) = first {
-                return Err(e);
+        Err(e) => match e {
+            Error::OutOfMemory(e) => Err(e),
+            Error::NoSuchVariable(_) => {
+                let missing = missing(alloc, source, values)?;
+                Ok(Err(Refusal::Missing(missing)))
             }
-            let others = others_missing(alloc, source, values)?;
-            Ok(Err(Refusal { first, others }))
-        }
+            e => {
+                let range = e.source_range();
+                Ok(Err(Refusal::NotATemplate(range, e)))
+            }
+        },
     }
 }
 
-/// Returns a source's missing variables except the first, in order, or none if the source isn't a template.
+/// Returns a source's missing variables in order, or none if the source isn't a template.
 ///
 /// # Errors
 ///
 /// If allocation fails.
-fn others_missing(
+pub(crate) fn missing<'m, M: VariableMap<'m>>(
     alloc: Global,
     source: &[u8],
-    values: &LookUpValues<'_, '_>,
-) -> Result<Vec<NoSuchVariable>, AllocError> {
-    let missing = match ByteTemplate::from_slice(alloc, source) {
-        Ok(template) => template.missing(alloc, values)?,
-        Err(ParseError::OutOfMemory(e)) => return Err(e),
-        Err(_) => Vec::new(alloc),
-    };
-    missing.into_iter().skip(1).collect(alloc)
+    values: &'m M,
+) -> Result<Vec<NoSuchVariable>, AllocError>
+where
+    M::Value: Drop,
+    ensures { ListsMissing (M.look_up values.now) source.now result }
+{
+    match ByteTemplate::from_slice(alloc, source) {
+        Ok(template) => template.missing(alloc, values),
+        Err(e) => {
+            no_faults(alloc, e)?;
+            Ok(Vec::new(alloc))
+        }
+    }
 }

@@ -4,10 +4,10 @@ ghost use Rattle.std.specs.Prelude.{◌≡◌, IfOk, Some, string_bytes};
 ghost use Rattle.std.specs.List.{zip};
 ghost use Rattle.subst_cli.specs.Fill.{looked_up_name as looked_up, grammar_in};
 ghost use Rattle.subst_foreign.specs.declared.forms.Forms.TheVariants.{Shell};
-ghost use Rattle.subst_cli.specs.MapBack.{AreCounterparts, ArePaired, AreMapped, IsMappedBy, IsMappedCause};
+ghost use Rattle.subst_cli.specs.MapBack.{len_in_text, AreCounterparts, ArePaired, AreMapped, IsMappedBy, IsMappedCause};
 
 use crate::fault::{Cause, Fault, Unset};
-use crate::fill::LookUpValues;
+use crate::fill::{LookUpValues, missing};
 use crate::layers::Variables;
 use crate::options::Chosen;
 use crate::part::no_faults;
@@ -15,7 +15,6 @@ use crate::placeholders::{ChosenNames, style_of};
 use crate::terminal::printable;
 use std::alloc::{AllocError, Global};
 use std::collections::HashMap;
-use subst::error::ParseError;
 use subst::foreign::{Forms, Missing, Operator, Style, TextError, TextVariable};
 use subst::{ByteTemplate, Error, Variable, VariableMap, substitute_bytes};
 
@@ -107,8 +106,8 @@ where
         Err(TextError::Refused(_)) => return Ok(unset),
     };
     let counterparts = counterparts(alloc, text, &template, chosen, variables)?;
-    for position in missing_in(alloc, &template, values)? {
-        if let Some(variable) = counterparts.get(&position)
+    for e in missing(alloc, &template, values)? {
+        if let Some(variable) = counterparts.get(&e.position)
             && variable.operator.is_none()
             && !is_unreadable(variables, variable.name)
         {
@@ -123,29 +122,6 @@ fn is_unreadable(variables: &Variables<'_>, name: &[u8]) -> bool {
     match str::from_utf8(name) {
         Ok(name) => variables.is_unreadable(name),
         Err(_) => false,
-    }
-}
-
-/// Returns the byte offsets of the variables that a template needs and `values` lacks.
-///
-/// # Errors
-///
-/// If allocation fails.
-fn missing_in<'m, M: VariableMap<'m>>(
-    alloc: Global,
-    template: &[u8],
-    values: &'m M,
-) -> Result<Vec<usize>, AllocError>
-where
-    M::Value: Drop,
-{
-    match ByteTemplate::from_slice(alloc, template) {
-        Ok(template) => {
-            let missing = template.missing(alloc, values)?;
-            missing.iter().map(|e| e.position).collect(alloc)
-        }
-        Err(ParseError::OutOfMemory(e)) => Err(e),
-        Err(_) => Ok(Vec::new(alloc)),
     }
 }
 
@@ -200,7 +176,9 @@ fn map_back(
 }
 
 /// Returns the length of the name in a cause, or `len` if the cause has no name.
-fn len_of(cause: &Cause, len: usize) -> usize {
+fn len_of(cause: &Cause, len: usize) -> usize
+    ensures { result ≡ len_in_text cause.now len }
+{
     match cause {
         Cause::Unset(unset) => unset.name.len(),
         Cause::Unreadable(name) => name.len(),

@@ -41,8 +41,8 @@ a backslash is text.
 
 Precedence of values, the first one wins: --set, --set-file, values files, the
 environment, .env files, --default, defaults files. All unset variables of a
-file are reported. If it has another error, only that one is; with --only,
---envsubst, --known or --shell, all refused forms are.
+file are reported. If it has another error, only that error is reported; with
+--only, --envsubst, --known or --shell, all refused forms are reported.
 
 Exit status: 0 done, 1 a file or value is refused, 2 wrong arguments, 3 a file
 or device failed, 4 out of memory. See subst(1) for more.";
@@ -157,7 +157,7 @@ pub struct Options<'w> {
     pub escape: Escape,
     /// The rule for the format of each source.
     pub formats: FormatRule<'w>,
-    /// The placeholders in the sources.
+    /// The kind of placeholders that sources have: the template language's, or chosen forms and names.
     pub placeholders: Placeholders<'w>,
     /// Whether hints are printed for unset variables in shell-style texts. `--optional` turns the hints off.
     pub hints_unset: bool,

@@ -1,15 +1,23 @@
 //! Expands the parts of a source: the whole source, or each string of a document.
 
-ghost use Rattle.std.specs.Prelude.{◌≡◌, ◌≢◌, ◌⊎◌, [], ℕ, List, None, IfErr, IfOk, map};
-ghost use Rattle.std.specs.List.{All, Any, Contains};
-ghost use Rattle.subst.specs.Calls.Variables.{variable_of};
+ghost use Rattle.std.specs.Prelude.{◌≡◌, ◌≢◌, ◌++◌, [], List, None, IfErr, IfOk, map};
+ghost use Rattle.std.specs.List.{All, AllZip};
+ghost use Rattle.std.specs.List.Sorted.{IsPermutation};
+ghost use Rattle.subst.specs.Calls.Variables as calls;
+ghost use Rattle.subst.specs.Calls.Variables.{missing_variable, variable_of};
 ghost use Rattle.subst.specs.ErrorFault.{parse_fault};
+ghost use Rattle.subst.specs.Language.Sentence.{Spells};
+ghost use Rattle.subst.specs.Language.Tree.{Tree};
+ghost use Rattle.subst.specs.Language.Variables.{variables_of};
+ghost use Rattle.subst.specs.Reading.{variable_of as found_variable};
 ghost use Rattle.subst.specs.Template.{IsTemplate};
-ghost use Rattle.subst_cli.specs.Faults.{lacks_unreadable, IsFaultBy, IsFaultOf, IsForm, IsFormIn, IsFirstOf, IsUnreadableAmong, IsUnreadableAt, IsUnreadableIn};
-ghost use Rattle.subst_cli.specs.Fill.{looked_up_name as looked_up, grammar_in, AreReadable, GivesBy, GivesFor};
-ghost use Rattle.subst_cli.specs.Layers.{ForEntries, IsUnreadable};
-ghost use Rattle.subst_cli.specs.declared.fault.Cause.TheVariants as causes;
+ghost use Rattle.subst_cli.specs.Faults.{AreFaultsBy, AreFaultsOf, AreForms, AreMissing, AreUnreadable, IsForm, IsMissingAt, IsUnreadableAt};
+ghost use Rattle.subst_cli.specs.Fill.{grammar_in, GivesBy, GivesFor};
+ghost use Rattle.subst_cli.specs.Layers.{ForEntries};
+ghost use Rattle.subst_cli.specs.Listing.{is_optional, kind_by, kind_without, listed, variable_in, AreUses};
+ghost use Rattle.subst_cli.specs.declared.fault.Fault.{Fault as SpecFault};
 ghost use Rattle.subst_cli.specs.declared.options.Placeholders.TheVariants as kinds;
+ghost use Rattle.subst_language.specs.Language.Name.{IsName};
 
 use crate::fault::{Cause, Fault, one_fault, range_of_name};
 use crate::fill;
@@ -21,8 +29,9 @@ use crate::options::{Chosen, Placeholders};
 use crate::placeholders::{ChosenNames, style_of};
 use std::alloc::{AllocError, Global};
 use std::ops::Range;
-use subst::error::ParseError;
+use subst::error::{NoSuchVariable, ParseError};
 use subst::foreign::{FormAt, Forms, Missing, Operator, TextError, TextVariable};
+use subst::laws::one_reading;
 use subst::{ByteTemplate, Error, Variable, VariableKind};
 
 /// The outcome for a text or byte string: a `T`, or the faults in the order of their positions.
@@ -42,7 +51,7 @@ pub(crate) fn fill_bytes(
     ensures gives { ForEntries variables.now (λ entries. IfOk result (λ outcome. IfOk outcome
         (λ output. GivesFor placeholders.now entries source.now output.items))) }
     ensures refused { ForEntries variables.now (λ entries. IfOk result (λ outcome. IfErr outcome
-        (λ faults. Any (IsFaultOf placeholders.now entries source.now) faults.items))) }
+        (λ faults. AreFaultsOf placeholders.now entries source.now faults.items))) }
 {
     match placeholders {
         Placeholders::Own => fill_template(alloc, source, None, variables),
@@ -61,7 +70,7 @@ fn fill_chosen(
     ensures gives { ForEntries variables.now (λ entries. IfOk result (λ outcome. IfOk outcome
         (λ output. GivesFor (kinds.Chosen chosen.now) entries source.now output.items))) }
     ensures refused { ForEntries variables.now (λ entries. IfOk result (λ outcome. IfErr outcome
-        (λ faults. Any (IsFaultOf (kinds.Chosen chosen.now) entries source.now) faults.items))) }
+        (λ faults. AreFaultsOf (kinds.Chosen chosen.now) entries source.now faults.items))) }
 {
     let template = match chosen_template(alloc, source, chosen, Some(variables))? {
         Ok(template) => template,
@@ -89,8 +98,8 @@ fn chosen_template(
 ) -> Result<OrFaults<Vec<u8>>, AllocError>
     ensures template { let g = grammar_in chosen.now variables.entry in IfOk result (λ outcome.
         IfOk outcome (λ template. IsTemplate g chosen.now.missing source.now template.items)) }
-    ensures refused { IfOk result (λ outcome. IfErr outcome (λ faults.
-        Any (IsFormIn (grammar_in chosen.now variables.entry) source.now) faults.items)) }
+    ensures refused { IfOk result (λ outcome. IfErr outcome (λ faults. (¬ (faults.items ≡ []))
+        × AreForms (grammar_in chosen.now variables.entry) source.now faults.items)) }
 {
     let names = ChosenNames {
         choice: &chosen.names,
@@ -100,24 +109,25 @@ fn chosen_template(
     match style.byte_template(alloc, source) {
         Ok(template) => Ok(Ok(template)),
         Err(TextError::OutOfMemory(e)) => Err(e),
-        Err(TextError::Refused(first)) => {
-            let all = style.refusals(alloc, source)?;
-            Ok(Err(refused_forms(alloc, first, all)?))
+        Err(TextError::Refused(_)) => {
+            // A text has one list of refused forms, so the list isn't empty.
+            one_reading(style);
+            let forms = style.refusals(alloc, source)?;
+            Ok(Err(refused_forms(alloc, forms)?))
         }
     }
 }
 
-/// Returns a fault for each refused form of a text. `first` takes the place of the first form in `all`.
+/// Returns a fault for each refused form of a text, in order.
 ///
 /// # Errors
 ///
 /// If allocation fails.
-fn refused_forms(alloc: Global, first: FormAt, all: Vec<FormAt>) -> Result<Vec<Fault>, AllocError>
-    ensures { IfOk result (λ faults. Any (IsForm first) faults.items) }
+fn refused_forms(alloc: Global, forms: Vec<FormAt>) -> Result<Vec<Fault>, AllocError>
+    ensures { IfOk result (λ faults. AllZip IsForm forms.items faults.items) }
 {
-    let mut faults = Vec::with_capacity(alloc, all.len())?;
-    faults.push(refused_form(alloc, first))?;
-    for at in all.into_iter().skip(1) {
+    let mut faults = Vec::with_capacity(alloc, forms.len())?;
+    for at in forms {
         faults.push(refused_form(alloc, at))?;
     }
     Ok(faults)
@@ -145,14 +155,20 @@ fn fill_template(
     ensures gives { ForEntries variables.now (λ entries. IfOk result (λ outcome. IfOk outcome
         (λ output. GivesBy forms entries template.now output.items))) }
     ensures refused { ForEntries variables.now (λ entries. IfOk result (λ outcome. IfErr outcome
-        (λ faults. Any (IsFaultBy forms entries template.now) faults.items))) }
+        (λ faults. (¬ (faults.items ≡ []))
+        × AreFaultsBy forms entries template.now faults.items))) }
 {
     let filled = fill::bytes(alloc, template, &LookUpValues::of(&variables.values, forms))?;
     let unreadable = unreadable_in(alloc, template, forms, variables)?;
     match filled {
         Ok(output) if unreadable.is_empty() => Ok(Ok(output)),
         Ok(_) => Ok(Err(unreadable)),
-        Err(refusal) => Ok(Err(all_faults(alloc, refusal, unreadable, forms, variables)?)),
+        Err(Refusal::NotATemplate(range, e)) => {
+            Ok(Err(one_fault(alloc, range, Cause::Refused(e))?))
+        }
+        Err(Refusal::Missing(missing)) => {
+            Ok(Err(with_missing(alloc, missing, unreadable, forms, variables)?))
+        }
     }
 }
 
@@ -168,10 +184,8 @@ fn unreadable_in(
     forms: Option<Forms>,
     variables: &Variables<'_>,
 ) -> Result<Vec<Fault>, AllocError>
-    ensures all { ForEntries variables.now (λ entries. IfOk result
-        (λ faults. faults.items ≡ [] → AreReadable forms entries template.now)) }
-    ensures each { ForEntries variables.now (λ entries. IfOk result
-        (λ faults. All (IsUnreadableIn forms entries template.now) faults.items)) }
+    ensures { ForEntries variables.now (λ entries. IfOk result (λ faults. (t : Tree)
+        → Spells t template.now → AreUnreadable forms entries (variables_of 0 t) faults.items)) }
 {
     if variables.are_readable() {
         return Ok(Vec::new(alloc));
@@ -209,10 +223,8 @@ fn unreadable_of(
     forms: Option<Forms>,
     variables: &Variables<'_>,
 ) -> Result<Vec<Fault>, AllocError>
-    ensures all { ForEntries variables.now (λ entries. IfOk result (λ faults. faults.items ≡ []
-        → All (λ it. ¬ (IsUnreadable entries (looked_up forms it.name.now))) list.entry.items)) }
-    ensures each { ForEntries variables.now (λ entries. IfOk result (λ faults.
-        All (IsUnreadableAmong forms entries (map variable_of list.entry.items)) faults.items)) }
+    ensures { ForEntries variables.now (λ entries. IfOk result (λ faults.
+        AreUnreadable forms entries (map variable_of list.entry.items) faults.items)) }
 {
     let mut faults = Vec::new(alloc);
     for variable in list {
@@ -235,58 +247,41 @@ fn unreadable(alloc: Global, position: usize, name: &str) -> Result<Fault, Alloc
     })
 }
 
-/// Returns the faults of `refusal` and those in `besides`, in the order of their positions. `besides` has the
-/// faults of variables whose values aren't UTF-8. If `refusal` reports such a variable as missing too, the
-/// variable still has only one fault.
+/// Appends to `faults` the fault of each missing variable in `list`, unless the variable's value isn't UTF-8.
+/// Returns all faults in the order of their positions.
 ///
 /// # Errors
 ///
 /// If allocation fails.
-fn all_faults(
+fn with_missing(
     alloc: Global,
-    refusal: Refusal,
-    besides: Vec<Fault>,
+    list: Vec<NoSuchVariable>,
+    faults: Vec<Fault>,
     forms: Option<Forms>,
     variables: &Variables<'_>,
 ) -> Result<Vec<Fault>, AllocError>
-    ensures { IfOk result
-        (λ faults. Any (λ it. IsFirstOf refusal it ⊎ Contains besides.items it) faults.items) }
+    ensures { ForEntries variables.now (λ entries. IfOk result (λ all. (missing : List SpecFault)
+        × AreMissing forms entries (map missing_variable list.items) missing
+        × IsPermutation (faults.items ++ missing) all.items)) }
 {
-    let Refusal { first, others } = refusal;
-    let mut faults = besides;
-    if faults.is_empty() || !is_unreadable(&first, forms, variables) {
-        let range = first.source_range();
-        faults.push(refused(alloc, range, first))?;
-    }
-    for e in others {
+    let mut all = faults;
+    for e in list {
         if !variables.is_unreadable(looked_up_name(&e.name, forms)) {
-            let range = range_of_name(e.position, &e.name);
-            faults.push(refused(alloc, range, Error::NoSuchVariable(e)))?;
+            all.push(missing(alloc, e))?;
         }
     }
-    faults.sort_unstable_by_key(|fault| fault.range.start);
-    Ok(faults)
+    all.sort_unstable_by_key(|fault| fault.range.start);
+    Ok(all)
 }
 
-/// Returns whether an error reports as missing a variable whose value isn't UTF-8.
-fn is_unreadable(e: &Error, forms: Option<Forms>, variables: &Variables<'_>) -> bool
-    ensures { result ≡ lacks_unreadable forms variables.now e.now }
-{
-    let Error::NoSuchVariable(missing) = e else {
-        return false;
-    };
-    variables.is_unreadable(looked_up_name(&missing.name, forms))
-}
-
-/// Returns the fault for an error of the library, at a range.
-fn refused(alloc: Global, range: Range<usize>, e: Error) -> Fault
-    ensures cause { result.cause ≡ causes.Refused e }
-    ensures range { result.range ≡ range }
+/// Returns the fault of a missing variable.
+fn missing(alloc: Global, e: NoSuchVariable) -> Fault
+    ensures { IsMissingAt (missing_variable e) result }
 {
     Fault {
         path: String::new(alloc),
-        range,
-        cause: Cause::Refused(e),
+        range: range_of_name(e.position, &e.name),
+        cause: Cause::Refused(Error::NoSuchVariable(e)),
     }
 }
 
@@ -312,29 +307,26 @@ pub(crate) fn uses_in_bytes(
     alloc: Global,
     source: &[u8],
     placeholders: &Placeholders<'_>,
-) -> Result<OrFaults<Vec<Occurrence>>, AllocError> {
-    let found = match placeholders {
-        Placeholders::Own => uses_in(alloc, source)?,
-        Placeholders::Chosen(chosen) => uses_in_chosen(alloc, source, chosen)?,
-    };
-    let mut uses = match found {
-        Ok(uses) => uses,
-        Err(faults) => return Ok(Err(faults)),
-    };
-    for it in uses.iter_mut() {
-        if it.kind == VariableKind::WithDefault {
-            it.default = printable_default(alloc, source, it.range.end, placeholders)?;
-        }
+) -> Result<OrFaults<Vec<Occurrence>>, AllocError>
+    ensures { IfOk result (λ outcome. IfOk outcome
+        (λ uses. AreUses placeholders.now source.now uses.items)) }
+{
+    match placeholders {
+        Placeholders::Own => uses_in(alloc, source, placeholders),
+        Placeholders::Chosen(chosen) => uses_in_chosen(alloc, source, placeholders, chosen),
     }
-    Ok(Ok(uses))
 }
 
 /// Returns the uses of chosen variables in another tool's text, or its refused forms.
 fn uses_in_chosen(
     alloc: Global,
     source: &[u8],
+    placeholders: &Placeholders<'_>,
     chosen: &Chosen<'_>,
-) -> Result<OrFaults<Vec<Occurrence>>, AllocError> {
+) -> Result<OrFaults<Vec<Occurrence>>, AllocError>
+    ensures { IfOk result (λ outcome. IfOk outcome
+        (λ uses. AreUses (kinds.Chosen chosen.now) source.now uses.items)) }
+{
     if let Err(faults) = chosen_template(alloc, source, chosen, None)? {
         return Ok(Err(faults));
     }
@@ -342,32 +334,48 @@ fn uses_in_chosen(
         choice: &chosen.names,
         variables: None,
     };
-    let variables = style_of(chosen, &names).variables(alloc, source)?;
-    let mut uses = Vec::with_capacity(alloc, variables.len())?;
-    for TextVariable {
-        name,
-        position,
-        operator,
-        ..
-    } in variables {
-        let name = str::from_utf8(name).unwrap_or("");
-        uses.push(Occurrence {
-            name: String::from_str(alloc, name)?,
-            range: range_of_name(position, name),
-            kind: kind_of(
-                operator,
-                chosen.missing,
-                is_optional(source, position, name),
-            ),
-            default: String::new(alloc),
-        })?;
+    let found = style_of(chosen, &names).variables(alloc, source)?;
+    let variables = variables_in(alloc, source, chosen.missing, found)?;
+    Ok(Ok(uses_of(alloc, source, placeholders, variables)?))
+}
+
+/// Converts the variables of another tool's text into variables of the library.
+fn variables_in<'t>(
+    alloc: Global,
+    source: &[u8],
+    missing: Missing,
+    found: Vec<TextVariable<'t>>,
+) -> Result<Vec<Variable<'t>>, AllocError>
+    ensures { All (λ v. IsName v.name.now) found.entry.items
+        → IfOk result (λ variables. map variable_of variables.items
+        ≡ map (λ v. variable_in missing source.now (found_variable v)) found.entry.items) }
+{
+    let mut variables = Vec::with_capacity(alloc, found.len())?;
+    for it in found {
+        variables.push(variable_in(source, missing, it))?;
     }
-    Ok(Ok(uses))
+    Ok(variables)
+}
+
+/// Converts a variable of another tool's text into a variable of the library.
+fn variable_in<'t>(source: &[u8], missing: Missing, it: TextVariable<'t>) -> Variable<'t>
+    ensures { IsName it.entry.name.now
+        → variable_of result ≡ variable_in missing source.now (found_variable it.entry) }
+{
+    let name = str::from_utf8(it.name).unwrap_or("");
+    let is_optional = is_optional(source, it.position, name);
+    Variable {
+        name,
+        position: it.position,
+        kind: kind_of(it.operator, missing, is_optional),
+    }
 }
 
 /// Returns how an unset variable of another tool's text expands. Its operator decides this; without an
 /// operator, `is_optional` and `missing` do.
-fn kind_of(operator: Option<Operator>, missing: Missing, is_optional: bool) -> VariableKind {
+fn kind_of(operator: Option<Operator>, missing: Missing, is_optional: bool) -> VariableKind
+    ensures { calls.kind_of result ≡ kind_by (kind_without missing is_optional) operator }
+{
     match operator {
         Some(Operator::Question | Operator::ColonQuestion) => VariableKind::Required,
         Some(Operator::Plus | Operator::ColonPlus) => VariableKind::Optional,
@@ -379,18 +387,27 @@ fn kind_of(operator: Option<Operator>, missing: Missing, is_optional: bool) -> V
 
 /// Returns whether a variable is written `${NAME?}`. Its `name` is at `position` of `source`. The result is
 /// also true for a shell's `${NAME?message}`, which has the operator `?`.
-fn is_optional(source: &[u8], position: usize, name: &str) -> bool {
+fn is_optional(source: &[u8], position: usize, name: &str) -> bool
+    ensures { result ≡ is_optional source.now position name.now }
+{
     let before = source.get(position.saturating_sub(1));
     let after = source.get(position.saturating_add(name.len()));
     before == Some(&b'{') && after == Some(&b'?')
 }
 
 /// Returns the uses of variables in a template, or the fault of bytes that aren't a template.
-fn uses_in(alloc: Global, template: &[u8]) -> Result<OrFaults<Vec<Occurrence>>, AllocError> {
-    match ByteTemplate::from_slice(alloc, template) {
+fn uses_in(
+    alloc: Global,
+    source: &[u8],
+    placeholders: &Placeholders<'_>,
+) -> Result<OrFaults<Vec<Occurrence>>, AllocError>
+    ensures { IfOk result (λ outcome. IfOk outcome
+        (λ uses. AreUses kinds.Own source.now uses.items)) }
+{
+    match ByteTemplate::from_slice(alloc, source) {
         Ok(template) => {
             let variables = template.variables(alloc)?;
-            Ok(Ok(uses(alloc, variables)?))
+            Ok(Ok(uses_of(alloc, source, placeholders, variables)?))
         }
         Err(ParseError::OutOfMemory(e)) => Err(e),
         Err(e) => {
@@ -401,20 +418,46 @@ fn uses_in(alloc: Global, template: &[u8]) -> Result<OrFaults<Vec<Occurrence>>, 
     }
 }
 
-/// Converts the variables of a template into uses for the listing, without defaults.
-fn uses(alloc: Global, variables: Vec<Variable<'_>>) -> Result<Vec<Occurrence>, AllocError> {
+/// Converts the variables of `source` into uses for the listing.
+fn uses_of(
+    alloc: Global,
+    source: &[u8],
+    placeholders: &Placeholders<'_>,
+    variables: Vec<Variable<'_>>,
+) -> Result<Vec<Occurrence>, AllocError>
+    ensures { IfOk result (λ uses. map listed uses.items ≡ map variable_of variables.entry.items) }
+{
     let mut uses = Vec::with_capacity(alloc, variables.len())?;
-    for Variable {
+    for variable in variables {
+        uses.push(use_of(alloc, source, placeholders, variable)?)?;
+    }
+    Ok(uses)
+}
+
+/// Converts a variable of `source` into a use for the listing.
+fn use_of(
+    alloc: Global,
+    source: &[u8],
+    placeholders: &Placeholders<'_>,
+    variable: Variable<'_>,
+) -> Result<Occurrence, AllocError>
+    ensures { IfOk result (λ it. listed it ≡ variable_of variable.entry) }
+{
+    let Variable {
         name,
         position,
         kind,
-    } in variables {
-        uses.push(Occurrence {
-            name: String::from_str(alloc, name)?,
-            range: range_of_name(position, name),
-            kind,
-            default: String::new(alloc),
-        })?;
-    }
-    Ok(uses)
+    } = variable;
+    let range = range_of_name(position, name);
+    let default = if kind == VariableKind::WithDefault {
+        printable_default(alloc, source, range.end, placeholders)?
+    } else {
+        String::new(alloc)
+    };
+    Ok(Occurrence {
+        name: String::from_str(alloc, name)?,
+        range,
+        kind,
+        default,
+    })
 }

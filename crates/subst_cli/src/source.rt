@@ -1,5 +1,8 @@
 //! Sources, and the messages for their faults.
 
+ghost use Rattle.std.specs.Prelude.{IfOk, IfSome, string_bytes};
+ghost use Rattle.subst_cli.specs.Messages.{AreMessages, IsMessage, IsReport, IsShown};
+
 use crate::excerpt::{cut, excerpt};
 use crate::fault::Fault;
 use crate::position::{Position, Positions};
@@ -49,24 +52,47 @@ pub(crate) fn messages(
     bytes: &[u8],
     faults: &[Fault],
     excerpts: Excerpts,
-) -> Result<String, AllocError> {
+) -> Result<String, AllocError>
+    ensures { IfOk result
+        (λ text. AreMessages excerpts name.now bytes.now faults.now (string_bytes text)) }
+{
     let mut positions = Positions::of(bytes);
     let mut text = String::new(alloc);
     for fault in faults {
-        let Position { line, column } = positions.at(alloc, fault.range.start)?;
-        let message = fault_message(alloc, fault)?;
-        text.push_str(&format!(in alloc; "{name}:{line}:{column}: error: {message}\n")?)?;
-        if excerpts == Excerpts::All {
-            let range = fault.range.start..fault.range.end;
-            text.push_str(&excerpt(alloc, bytes, range)?)?;
-        }
+        let position = positions.at(alloc, fault.range.start)?;
+        let report = report(alloc, name, bytes, fault, position, excerpts)?;
+        text.push_str(&report)?;
     }
     Ok(text)
 }
 
+/// Returns the message for a fault at a position, followed by the excerpt, if there is to be one.
+fn report(
+    alloc: Global,
+    name: &str,
+    bytes: &[u8],
+    fault: &Fault,
+    position: Position,
+    excerpts: Excerpts,
+) -> Result<String, AllocError>
+    ensures { IfOk result (λ text.
+        IsReport excerpts name.now position.line position.column fault.now (string_bytes text)) }
+{
+    let Position { line, column } = position;
+    let message = fault_message(alloc, fault)?;
+    let range = fault.range.start..fault.range.end;
+    let excerpt = match excerpts {
+        Excerpts::All => excerpt(alloc, bytes, range)?,
+        Excerpts::None => String::new(alloc),
+    };
+    format!(in alloc; "{name}:{line}:{column}: error: {message}\n{excerpt}")
+}
+
 /// Returns the path and the message of a fault, or the message alone if the path is empty. Each is escaped
 /// for a terminal, and cut if too wide.
-fn fault_message(alloc: Global, fault: &Fault) -> Result<String, AllocError> {
+fn fault_message(alloc: Global, fault: &Fault) -> Result<String, AllocError>
+    ensures { IfOk result (λ message. IsMessage fault.now (string_bytes message)) }
+{
     let cause = format_within(alloc, &fault.cause, WIDEST_FAULT)?;
     if fault.path.is_empty() {
         return Ok(cause);
@@ -80,7 +106,10 @@ fn format_within<D: fmt::Display>(
     alloc: Global,
     value: &D,
     columns: usize,
-) -> Result<String, AllocError> {
+) -> Result<String, AllocError>
+    ensures { IfOk result (λ shown. IfSome (D.output value.now)
+        (λ text. IsShown columns text (string_bytes shown))) }
+{
     let text = format!(in alloc; "{value}")?;
     cut(alloc, printable(alloc, text.as_bytes())?, columns)
 }

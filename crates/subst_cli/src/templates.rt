@@ -10,7 +10,7 @@ use std::alloc::{AllocError, Global};
 use std::io;
 use std::path::Path;
 
-/// A file to be expanded, checked or listed.
+/// A file to be expanded or checked, or whose variables are to be listed.
 #[derive(Drop)]
 pub(crate) struct Template {
     /// The path of the file.

@@ -1,17 +1,20 @@
 //! Texts escaped for a terminal.
 
+ghost use Rattle.std.specs.Prelude.{◌≡◌, IfOk, string_bytes};
+ghost use Rattle.subst_cli.specs.Messages.{are_printable, IsPrintable};
+
 use std::alloc::{AllocError, Global};
 use std::fmt::Write;
 
 /// Escapes bytes for a terminal. Bytes that aren't UTF-8 become the replacement character, and a tab becomes
 /// a space. Control characters and invisible ones are written by number, such as `\u{1b}`.
-pub(crate) fn printable(alloc: Global, bytes: &[u8]) -> Result<String, AllocError> {
-    if let Ok(text) = str::from_utf8(bytes)
-        && are_printable(bytes)
-    {
-        return String::from_str(alloc, text);
-    }
+pub(crate) fn printable(alloc: Global, bytes: &[u8]) -> Result<String, AllocError>
+    ensures { IfOk result (λ text. IsPrintable bytes.now → string_bytes text ≡ bytes.now) }
+{
     let text = String::from_utf8_lossy(alloc, bytes)?;
+    if are_printable(bytes) {
+        return Ok(text);
+    }
     let mut escaped = String::with_capacity(alloc, text.len())?;
     for c in text.chars() {
         push_printable(&mut escaped, c)?;
@@ -20,7 +23,9 @@ pub(crate) fn printable(alloc: Global, bytes: &[u8]) -> Result<String, AllocErro
 }
 
 /// Returns whether all bytes are printable ASCII. Such bytes aren't escaped, and each takes one column.
-pub(crate) fn are_printable(bytes: &[u8]) -> bool {
+pub(crate) fn are_printable(bytes: &[u8]) -> bool
+    ensures { result ≡ are_printable bytes.now }
+{
     bytes.iter().all(|b| matches!(b, b' '..=b'~'))
 }
 

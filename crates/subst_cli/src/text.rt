@@ -1,9 +1,9 @@
 //! Sources as text: UTF-8 and byte order marks.
 
 ghost use Rattle.std.specs.Prelude.{◌≡◌, IfOk, IsTrue, IsUtf8, MatchOption};
-ghost use Rattle.std.specs.List.{Any};
 ghost use Rattle.subst_cli.specs.Faults.{IsNoText};
 ghost use Rattle.subst_cli.specs.Mark.{after_mark, filled_of, kept_of, mark_in};
+ghost use Rattle.subst_cli.specs.ValuesFaults.{HasOne};
 
 use crate::fault::{Cause, Fault, one_fault};
 use crate::options::{Format, InputFormat};
@@ -60,7 +60,7 @@ pub(crate) fn is_text(bytes: &[u8]) -> bool
 /// If allocation fails.
 pub(crate) fn not_utf8(alloc: Global, bytes: &[u8]) -> Result<Vec<Fault>, AllocError>
     ensures { ¬ (IsUtf8 bytes.now)
-        → IfOk result (λ faults. Any (IsNoText bytes.now) faults.items) }
+        → IfOk result (λ faults. HasOne (IsNoText bytes.now) faults.items) }
 {
     let start = match str::from_utf8(bytes) {
         Ok(text) => text.len(),

@@ -1,12 +1,12 @@
 //! Values files, with `NAME=VALUE` lines or a single value.
 
-ghost use Rattle.std.specs.Prelude.{◌≡◌, ◌<◌, [], IfErr, IfOk, List, MatchResult, None, Option, Some, if◌then◌else◌, length, string_bytes};
-ghost use Rattle.std.specs.List.{after_first, before_first, All, Any};
+ghost use Rattle.std.specs.Prelude.{◌≡◌, ◌<◌, [], IfErr, IfOk, List, None, Option, Some, if◌then◌else◌, length, string_bytes};
+ghost use Rattle.std.specs.List.{after_first, before_first};
 ghost use Rattle.subst_cli.specs.Layers.{Entry as SpecEntry, entries_of};
 ghost use Rattle.subst_cli.specs.ValuesFile as file;
-ghost use Rattle.subst_cli.specs.ValuesFile.{before, is_line_feed, parsed, value_of, values_in, values_of, values_of_files, with_line};
+ghost use Rattle.subst_cli.specs.ValuesFile.{before, is_line_feed, lines_in, parsed, value_of, values_in, values_of, values_of_files, values_of_lines, with_line};
 ghost use Rattle.subst_cli.specs.Faults.{IsNoText};
-ghost use Rattle.subst_cli.specs.Run.{IsFaultOfFile, IsFaultOfLines, IsRefusedFile};
+ghost use Rattle.subst_cli.specs.ValuesFaults.{AreRefused, HasOne, IsFaultOfLines, IsFirstWrong, IsRefusedFile};
 
 use crate::entry::{Entry, entry_in, split_once};
 use crate::fault::{Cause, one_fault};
@@ -25,18 +25,6 @@ pub enum ValuesSource {
     Value(String, LineEnd, Source),
 }
 
-/// The fault of a line in a values file.
-#[derive(Clone, Copy, Debug, PartialEq, Eq)]
-struct LineFault {
-    /// The message.
-    pub message: &'static str,
-    /// The byte offset in the file where the line's leading blanks end.
-    pub start: usize,
-}
-
-/// The variables of a values file, or the fault of its first wrong line.
-type Lines = Result<Vec<Entry>, LineFault>;
-
 /// Returns the variables of values files, in the order of files and lines, or the files that are refused. A
 /// file is refused if it isn't UTF-8, or if a line is wrong.
 ///
@@ -50,7 +38,7 @@ pub fn lines_of(
     ensures gives { IfOk result (λ outcome. IfOk outcome (λ entries.
         values_of_files files.items ≡ Some (entries_of entries.items))) }
     ensures refused { IfOk result (λ outcome. IfErr outcome (λ refused. (¬ (refused.items ≡ []))
-        × All (IsRefusedFile files.items) refused.items)) }
+        × AreRefused files.items refused.items)) }
 {
     let mut all = Vec::new(alloc);
     let mut refused = Vec::new(alloc);
@@ -71,7 +59,7 @@ pub fn lines_of(
 fn entries_in(alloc: Global, file: ValuesSource) -> Result<Result<Vec<Entry>, Refused>, AllocError>
     ensures gives { IfOk result (λ outcome. IfOk outcome
         (λ entries. values_in file ≡ Some (entries_of entries.items))) }
-    ensures refused { IfOk result (λ outcome. IfErr outcome (IsFaultOfFile file)) }
+    ensures refused { IfOk result (λ outcome. IfErr outcome (IsRefusedFile file)) }
 {
     match file {
         ValuesSource::Lines(source) => match entries_or_faults(alloc, &source.bytes)? {
@@ -116,7 +104,7 @@ fn value_or_faults(
     ensures gives { IfOk result (λ outcome. IfOk outcome (λ entries.
         value_of (string_bytes name) bytes.now ≡ Some (entries_of entries.items))) }
     ensures refused { IfOk result (λ outcome. IfErr outcome
-        (λ faults. Any (IsNoText bytes.now) faults.items)) }
+        (λ faults. HasOne (IsNoText bytes.now) faults.items)) }
 {
     let Ok(text) = simdutf8::basic::from_utf8(bytes) else {
         return Ok(Err(not_utf8(alloc, bytes)?));
@@ -127,39 +115,36 @@ fn value_or_faults(
     Ok(Ok(entries))
 }
 
-/// Returns the variables of a values file, or its faults.
+/// Returns the variables of a values file, or its fault.
 fn entries_or_faults(alloc: Global, bytes: &[u8]) -> Result<OrFaults<Vec<Entry>>, AllocError>
     ensures gives { IfOk result (λ outcome. IfOk outcome
         (λ entries. values_of bytes.now ≡ Some (entries_of entries.items))) }
     ensures refused { IfOk result (λ outcome. IfErr outcome
-        (λ faults. Any (IsFaultOfLines bytes.now) faults.items)) }
+        (λ faults. HasOne (IsFaultOfLines bytes.now) faults.items)) }
 {
     if text_of(bytes).is_none() {
         return Ok(Err(not_utf8(alloc, bytes)?));
     }
-    match entries(alloc, bytes)? {
-        Ok(entries) => Ok(Ok(entries)),
-        Err(LineFault { message, start }) => {
-            let cause = Cause::NoVariable(message);
-            Ok(Err(one_fault(alloc, start..start, cause)?))
-        }
-    }
+    entries(alloc, bytes)
 }
 
-/// Parses the variables of a values file, in the order of its lines. Skips the blanks at the start of each
-/// line, and lines that are then empty or begin with `#`. A value is all of its line after the first `=`,
-/// unchanged.
-fn entries(alloc: Global, text: &[u8]) -> Result<Lines, AllocError>
-    ensures { IfOk result (λ lines. MatchResult lines
-        (λ entries. values_of text.now ≡ Some (entries_of entries.items))
-        (λ _. values_of text.now ≡ None)) }
+/// Parses the variables of a values file, in the order of its lines, or returns the fault of the first wrong
+/// line. Skips the blanks at the start of each line, and lines that are then empty or begin with `#`. A value
+/// is all of its line after the first `=`, unchanged.
+fn entries(alloc: Global, text: &[u8]) -> Result<OrFaults<Vec<Entry>>, AllocError>
+    ensures gives { IfOk result (λ outcome. IfOk outcome
+        (λ entries. values_of_lines (lines_in text.now) ≡ Some (entries_of entries.items))) }
+    ensures refused { IfOk result (λ outcome. IfErr outcome
+        (λ faults. HasOne (IsFirstWrong text.now) faults.items)) }
 {
     let mut entries = Vec::new(alloc);
     let (_, mut rest) = split_mark(text);
     while !rest.is_empty() {
         let (line, after) = first_line(rest);
         if !add_line(alloc, line, &mut entries)? {
-            return Ok(Err(fault(line, text.len().saturating_sub(rest.len()))));
+            let start = text.len().saturating_sub(after_blanks(rest).len());
+            let cause = Cause::NoVariable(message_of(line));
+            return Ok(Err(one_fault(alloc, start..start, cause)?));
         }
         rest = after;
     }
@@ -183,20 +168,14 @@ fn add_line(alloc: Global, line: &[u8], entries: &mut Vec<Entry>) -> Result<bool
     Ok(true)
 }
 
-/// Returns the fault of a wrong line. `offset` is the byte offset in the file where the line begins.
-fn fault(line: &[u8], offset: usize) -> LineFault {
-    let line = without_return(line);
-    let begun = after_blanks(line);
-    let message = if begun.contains(&b'=') {
+/// Returns the message of a wrong line.
+pub(crate) fn message_of(line: &[u8]) -> &'static str
+    ensures { result.now ≡ file.message_of line.now }
+{
+    if line.contains(&b'=') {
         "not a variable name"
     } else {
         "missing '='"
-    };
-    LineFault {
-        message,
-        start: offset
-            .saturating_add(line.len())
-            .saturating_sub(begun.len()),
     }
 }
 

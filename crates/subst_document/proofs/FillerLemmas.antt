@@ -6,12 +6,11 @@ use Rattle.subst_error.specs.ErrorFault.{error_fault}
 use Rattle.subst_error.specs.Fault.{Fault}
 use Rattle.subst_error.specs.Range.{range_of, IsRangeIn}
 use Rattle.subst_error.specs.declared.Error.{Error}
-use Rattle.subst_language.specs.Calls.Clauses.{AnswersText, IsRangedIn}
+use Rattle.subst_language.specs.Calls.Clauses.{AnswersText, HasOutput, IsRangedIn}
 use Rattle.subst_language.specs.Calls.Outcome.{answer_of, refusal_of}
 use Rattle.subst_language.specs.Calls.VariableMap.{ByLookUp, ByNames}
 use Rattle.subst_language.specs.Language.Answer.{Answers, Gives, Refuses}
 use Rattle.subst_language.specs.Language.Bytes.{IsPlain}
-use Rattle.subst_language.specs.Language.Sentence.{IsSentence}
 use Rattle.subst_language.proofs.CallingLemmas.{plain_answer}
 
 module _ {V Seen : Type 0} (items : V → List ℕ) (see : V → Seen) (look_up : List ℕ → Option Seen)
@@ -19,17 +18,16 @@ module _ {V Seen : Type 0} (items : V → List ℕ) (see : V → Seen) (look_up 
   -- the output of a plain text is the text
   pub plain_text : All IsPlain s → AnswersText items see look_up s (Gives s)
   plain_text plain =
-      let (t, spells, gives) = plain_answer s (λ name. None) plain in
-      ((t, spells), λ bytes reads. plain_answer s _ plain)
+      ((λ look names. (s, plain_answer s look plain)), λ bytes reads. plain_answer s _ plain)
 
   -- the result of a substitution states the answer
   pub stated_answer : {T : Type 0} (bytes_of : T → List ℕ) (result : Result T Error)
       → ByLookUp items see look_up (λ look. IfSome (answer_of bytes_of result) (Answers s look))
-      → IfOk result (λ output. IsSentence s)
+      → IfOk result (λ output. HasOutput look_up s)
       → ByNames look_up (λ look. IfSome (refusal_of result) (Answers s look))
       → IsRangedIn s error_fault result → IfSome (answer_of bytes_of result) (AnswersText items see look_up s)
-  stated_answer bytes_of (Ok output) answer sentence refusal range = (sentence, answer)
-  stated_answer bytes_of (Err e) answer sentence refusal range = of (error_fault e) refusal range
+  stated_answer bytes_of (Ok output) answer complete refusal range = (complete, answer)
+  stated_answer bytes_of (Err e) answer complete refusal range = of (error_fault e) refusal range
     where
       of : (o : Option Fault) → ByNames look_up (λ look. IfSome (option_map Refuses o) (Answers s look))
           → IsRangeIn s (range_of o) → IfSome (option_map Refuses o) (AnswersText items see look_up s)

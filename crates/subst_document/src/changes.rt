@@ -20,7 +20,7 @@ use subst_error::Error;
 pub enum Change {
     /// The value is kept. In a list of changes, this many values after it are kept too.
     Kept(usize),
-    /// The value is a string, and this string replaces it.
+    /// The value is a string. This is the string that replaces it.
     Text(String),
     /// The changes of the values in an array, object or table, in order. Values for which no change is left
     /// are kept.

@@ -10,9 +10,10 @@ use Rattle.subst_expand.specs.Output.{AppendsFilled}
 use Rattle.subst_language.specs.Parts.Meaning.{IsTemplateOf, parts_value, parts_written}
 use Rattle.subst_language.specs.declared.part.Part.{Part}
 
--- The outcome of an expansion of the parts of the source s. `read` and `is_read` are the reader's, and `see`
--- and `look_up` the map's. `before` and `after` are the output's items before and after the expansion.
--- `capacity` and `len` are the output's capacity and length before the expansion.
+-- The outcome of an expansion of the parts of the source s. `read v` is the bytes as which a value v is read,
+-- and `is_read` holds of them; `see` and `look_up` are the map's. `before` and `after` are the output's items
+-- before and after the expansion. `capacity` and `len` are the output's capacity and length before the
+-- expansion.
 pub record ExpandsParts {V Seen : Type 0} (read : V → List ℕ) (is_read : List ℕ → Type 0) (see : V → Seen)
     (look_up : List ℕ → Option Seen) (s : List ℕ) (parts : List Part) (before after : List ℕ)
     (capacity len : ℕ) (outcome : Result (Unit {0}) ExpandIntoError) : Type 0 where

@@ -30,7 +30,7 @@ pub trait Output {
         ensures full { OnErr result (capacity self.old < len self.old + length bytes.now) }
         ensures capacity { capacity self.old ≤ capacity self.new };
 
-    /// Appends a byte, as `append_bytes`.
+    /// Appends a byte, as `append_bytes` does.
     ///
     /// # Errors
     ///

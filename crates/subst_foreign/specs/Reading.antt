@@ -117,7 +117,8 @@ part forms unset Opening = opening_brace ∷ []
 part forms unset Closing = closing_brace ∷ []
 part forms unset (Refused form front) = []
 
--- a token of the code as a token of the definitions; `front` is the spelling of a `Refused` token
+-- a token of the code, converted to a token of these definitions; `front` is the spelling of a `Refused`
+-- token
 abbrev pub token_of : (front : List ℕ) → SeenToken → Token
 token_of front (seen.Byte b) = Byte b
 token_of front seen.Dollars = Whole Dollar
@@ -213,7 +214,7 @@ pub data Listing (g : Grammar) : (position depth : ℕ) → (s : List ℕ) → L
       → Listing g (position + length (token_text t)) (depth_after depth t) x variables
       → Listing g position depth (token_text t ++ x) (listed_at position t ++ variables)
 
--- a variable of the code as a variable of the definitions
+-- a `TextVariable` of the code, as contracts see it, converted to a `VariableAt` of these definitions
 abbrev pub variable_of : SeenVariable → VariableAt
 variable_of v =
     record { position = v.position; name = v.name.now; operator = v.operator; message = v.message.now }

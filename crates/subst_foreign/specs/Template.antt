@@ -100,7 +100,7 @@ abbrev pub renamed : Forms → Given → Given
 renamed forms (Ok x) = Ok x
 renamed forms (Err n) = Err (text_name forms n)
 
--- the name under which a template looks up a variable of a text
+-- the name under which the template of a text looks up one of the text's variables
 abbrev pub template_name_of : Forms → Variable → List ℕ
 template_name_of forms variable = template_name forms variable.operator variable.name
 

@@ -174,7 +174,7 @@ struct Replacement<'t> {
     front: &'static [u8],
     /// The name, or no bytes.
     name: &'t [u8],
-    /// All bytes after the name.
+    /// The bytes of the placeholder after the name.
     end: &'static [u8],
 }
 
@@ -217,8 +217,8 @@ fn rewritten<'t>(token: Token<'t>, forms: Forms, missing: Missing) -> Option<Rep
     Some(Replacement { front, name, end })
 }
 
-/// Returns the template's bytes around the name of a variable without an operator, or `None` if the template
-/// spells the variable as the text does.
+/// Returns the bytes before and after the name of a variable without an operator, in the template into which
+/// a text is converted. Returns `None` if the template spells such a variable as the text does.
 fn plain_ends(forms: Forms, missing: Missing) -> Option<(&'static [u8], &'static [u8])>
     ensures some { IfSome result (λ ends. (item : Item) (n : List ℕ)
         → (item_text (plain_item forms missing item n) ≡ ends.0.now ++ n ++ ends.1.now)) }

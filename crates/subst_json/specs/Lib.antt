@@ -13,3 +13,4 @@ pub mod Pieces
 pub mod Places
 pub mod Pointer
 pub mod Report
+pub mod Stop

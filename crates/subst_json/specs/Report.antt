@@ -3,7 +3,6 @@ use Rattle.std.specs.Prelude.{◌≡◌, ⊤, ℕ, List, Option, None, MatchOpti
 use Rattle.std.specs.declared.ops.Range.{Range}
 use Rattle.serde_json.specs.Read.{read}
 use Rattle.subst_error.specs.ErrorFault.{error_fault}
-use Rattle.subst_error.specs.Range.{IsRangeIn}
 use Rattle.subst_language.specs.Language.Answer.{Answer}
 use Rattle.subst_document.specs.Refused.{HasRangeInText}
 use Rattle.subst_json.specs.Listed.{refusal_at, AreAllRefused, RefusalAt}
@@ -11,6 +10,7 @@ use Rattle.subst_json.specs.Outcome.{ReadsAsTree}
 use Rattle.subst_json.specs.Paths.{steps_of}
 use Rattle.subst_json.specs.Places.{IsPlaceIn}
 use Rattle.subst_json.specs.Pointer.{pointer_text}
+use Rattle.subst_json.specs.Stop.{IsStop}
 use Rattle.subst_json.specs.declared.error.Error.{Error}
 use Rattle.subst_json.specs.declared.error.Error.TheVariants.{Json, Subst, OutOfMemory}
 use Rattle.subst_document.specs.Report.{lines_of, ReportsAll, ReportsFault}
@@ -24,12 +24,12 @@ abbrev pub ReportsRefused : (file s : List ℕ) → RefusalAt → List ℕ → T
 ReportsRefused file s it text =
     ReportsFault IsPlaceIn file s (pointer_text (steps_of it.path)) it.span (error_fault it.error) text
 
--- `text` reports the reader's message. The report has a position in s if s isn't JSON, and no position if the
--- tree of s doesn't fit a type.
+-- `text` reports the reader's message. If s isn't JSON, the report has the place at which the reader stopped.
+-- If the tree of s doesn't fit a type, the report has no place.
 abbrev pub ReportsReader : (file s text : List ℕ) → Type 0
 ReportsReader file s text =
     (place : Option (Range ℕ)) × (message : List ℕ)
-    × MatchOption place (ReadsAsTree s (λ _. ⊤)) (λ place. (read s ≡ None) × IsRangeIn s place)
+    × MatchOption place (ReadsAsTree s (λ _. ⊤)) (λ place. (read s ≡ None) × IsStop s place)
     × (text ≡ lines_of file s place message)
 
 -- `text` reports the error of a failed call on a file whose text is s

@@ -35,7 +35,7 @@ pub(crate) fn change_of<F: Fill>(alloc: Global, value: &Value, filler: &F) -> Re
     }
 }
 
-/// Returns the change that fills in the array whose items are `items`, as [`change_of`].
+/// Returns the change that fills in the array whose items are `items`, as [`change_of`] does.
 #[cycle(find)]
 fn change_of_items<F: Fill>(alloc: Global, items: &Vec<Value>, filler: &F) -> Result<Change, Error>
     ensures ok { IfOk result (λ change. AreEach (GivesBy (F.answers filler.now))
@@ -52,7 +52,7 @@ fn change_of_items<F: Fill>(alloc: Global, items: &Vec<Value>, filler: &F) -> Re
     Ok(found.into_change())
 }
 
-/// Returns the change that fills in the object whose members are `members`, as [`change_of`].
+/// Returns the change that fills in the object whose members are `members`, as [`change_of`] does.
 #[cycle(find)]
 fn change_of_members<F: Fill>(
     alloc: Global,

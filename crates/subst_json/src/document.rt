@@ -56,7 +56,7 @@ where
     fill_in_by(alloc, source, &Filler { variables })
 }
 
-/// Fills in the strings of `source`, the bytes of a JSON text, as [`fill_in`].
+/// Fills in the strings of `source`, the bytes of a JSON text, as [`fill_in`] does.
 ///
 /// # Errors
 ///
@@ -80,7 +80,7 @@ where
     }
 }
 
-/// Fills in the strings of a JSON text by `filler`, as [`fill_in`]. A string is skipped if
+/// Fills in the strings of a JSON text by `filler`, as [`fill_in`] does. A string is skipped if
 /// [`Fill::needs_no_filling`] returns `true` for it.
 ///
 /// # Errors

@@ -129,7 +129,7 @@ where
     fill_tree(alloc, value, variables)
 }
 
-/// Reads a JSON tree from bytes, and fills in its strings, as [`value_from_str`].
+/// Reads a JSON tree from bytes, and fills in its strings, as [`value_from_str`] does.
 ///
 /// # Errors
 ///
@@ -192,7 +192,7 @@ where
     Ok(T::from_tree(alloc, tree)?)
 }
 
-/// Reads JSON from bytes, fills in its strings, and converts the tree into a `T`, as [`from_str`].
+/// Reads JSON from bytes, fills in its strings, and converts the tree into a `T`, as [`from_str`] does.
 ///
 /// # Errors
 ///

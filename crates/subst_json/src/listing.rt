@@ -54,7 +54,7 @@ where
     refusals_by(alloc, source, &Filler { variables })
 }
 
-/// Lists the strings that `filler` refuses in `source`, a JSON text, as [`refusals_in`].
+/// Lists the strings that `filler` refuses in `source`, a JSON text, as [`refusals_in`] does.
 ///
 /// # Errors
 ///

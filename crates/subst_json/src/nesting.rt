@@ -17,13 +17,13 @@ const MAX_DEPTH: usize = 127;
 /// An expected part of a text.
 #[derive(Clone, Copy)]
 enum Expected {
-    /// The value of the text.
+    /// The text's top-level value.
     Value,
     /// The value of a key.
     Member,
-    /// An item of an array, or its end.
+    /// An item of an array, or the array's end.
     Item,
-    /// A key of an object, or its end.
+    /// A key of an object, or the object's end.
     Key,
     /// The end of the text.
     End,

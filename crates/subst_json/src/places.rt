@@ -68,7 +68,7 @@ impl RangeFinder {
     }
 
     /// Returns the byte ranges in `source`, a JSON text, that spell `ranges` of one of its strings, as
-    /// [`places_in`]. The string's token is scanned once.
+    /// [`places_in`] does. The string's token is scanned once.
     ///
     /// # Errors
     ///

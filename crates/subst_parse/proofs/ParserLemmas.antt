@@ -2,8 +2,7 @@
 use Rattle.std.proofs.Common.{◌≡◌, ◌≢◌, ℕ, suc, ◌+◌, ◌-◌, ◌<◌, ◌≤◌, true, List, [], ◌∷◌, ◌++◌, length, drop, take, reverse, Option, Some, None, Result, Ok, Err, OnErr, OnOk, Vec, Global, Bor, refl, sym, ap, ◌∙◌, subst, append-nil, length-append, length-drop, arith}
 use Rattle.std.proofs.Math.Decide.{ℕ_discrete}
 use Rattle.std.proofs.lemmas.List.{reverse-append, drop_all, take-append-drop}
-use Rattle.std.proofs.lemmas.List.Elements.{Contains-append_right}
-use Rattle.std.specs.List.{slice_get, Contains}
+use Rattle.std.specs.List.{slice_get}
 use Rattle.subst_language.specs.Language.Bytes.{colon, closing_brace, backslash, dollar, opening_brace}
 use Rattle.subst_parse.specs.ByteRun.{IsRun}
 use Rattle.subst_parse.specs.Inner.{IsInner}
@@ -13,6 +12,7 @@ use Rattle.subst_language.specs.Language.Tree.{text}
 use Rattle.subst_language.specs.Lemmas.Closing.{ClosesAll}
 use Rattle.subst_error.specs.Fault.{Fault, MissingClosingBrace}
 use Rattle.subst_language.specs.Language.BadItem.{HasFault}
+use Rattle.subst_language.specs.Calls.Clauses.{ContainsDefault}
 use Rattle.subst_language.specs.Parts.Sink.{HoldsFrom, HoldsSome, HoldsTemplate, FitsBelow, since, CanClose, CanTake, AllClosed}
 use Rattle.subst_parse.specs.Halt.{halt_fault}
 use Rattle.subst_parse.specs.declared.halt.Halt.{Halt}
@@ -213,11 +213,15 @@ head_inside s at name b front inside =
       simp (length-drop, length-append) at (ap length front.spelled),
     )
 
--- the byte after a name in braces is in the source
-pub head_contains : (s : List ℕ) (at : ℕ) (name : Span) (b : ℕ) → IsInBraces s at name b → Contains s b
-head_contains s at name b front =
-    rw (← take-append-drop at s, front.spelled) (Contains-append_right (take at s) _ b
-    (Contains-append_right (dollar ∷ opening_brace ∷ span_bytes name s) _ b (0, omega arith, refl)))
+-- a source with the beginning of a default at some position contains one
+pub contains_default : (s : List ℕ) (at : ℕ) (name : Span) → IsInBraces s at name colon → ContainsDefault s
+contains_default s at name head = (
+  take at s,
+  span_bytes name s,
+  drop (name.end + 1) s,
+  head.named.valid,
+  sym (take-append-drop at s) ∙ ap (λ rest. take at s ++ rest) head.spelled,
+)
 
 -- a default opens
 pub reading_opened : {S : Type 0} {holds : S → List Part → Type 0} {limit : ℕ} (old mid : Parser S) (sink : S)

@@ -1,4 +1,5 @@
--- The parser's own terms: its state and its reads. No contract of a public function of `subst` cites them.
+-- The parser's own terms, for its state and for the bytes that it reads. No contract of a public function of
+-- `subst` cites them.
 pub mod ByteRun
 pub mod Cost
 pub mod Halt

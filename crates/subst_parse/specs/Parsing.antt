@@ -1,11 +1,12 @@
 -- The text that the parser has read so far, and the meaning of the parser's parts and open defaults.
-use Rattle.std.specs.Prelude.{◌≡◌, ℕ, suc, ◌+◌, ◌^◌, ◌<◌, ◌≤◌, List, [], ◌∷◌, ◌++◌, length, drop, reverse, Bool, true, false, IsTrue, Result, Ok, Err, IfNone, IfSome, Contains}
+use Rattle.std.specs.Prelude.{◌≡◌, ℕ, suc, ◌+◌, ◌^◌, ◌<◌, ◌≤◌, List, [], ◌∷◌, ◌++◌, length, drop, reverse, Bool, true, false, IsTrue, Result, Ok, Err, IfNone, IfSome}
 use Rattle.subst_language.specs.Language.Bytes.{colon, IsPlain}
 use Rattle.subst_language.specs.Language.Tree.{Tree, text}
 use Rattle.subst_language.specs.Language.WellFormed.{IsWellFormed}
 use Rattle.subst_language.specs.Language.Followed.{IsFollowed}
 use Rattle.subst_language.specs.Language.Balanced.{IsBalanced}
 use Rattle.subst_language.specs.Language.BadItem.{HasFault}
+use Rattle.subst_language.specs.Calls.Clauses.{ContainsDefault}
 use Rattle.subst_parse.specs.ByteRun.{IsRun}
 use Rattle.subst_language.specs.Lemmas.Closing.{ChangesDepth}
 use Rattle.subst_parse.specs.Halt.{halt_fault}
@@ -127,7 +128,7 @@ abbrev pub ReadsOn : {S First : Type 0} → HoldsFrom S First → ℕ → Parser
 ReadsOn holds limit old new = FromReading holds limit old (λ first. IsReading (since holds first) limit new)
 
 -- One step of the parser: it advances, or returns the source's fault, or runs out of memory. With a sink that
--- never allocates, only open defaults take memory, so memory runs out only if the source has a colon.
+-- never allocates, only open defaults take memory, so memory runs out only if the source begins a default.
 abbrev pub StepsOrFails : {S First : Type 0} → HoldsFrom S First → ℕ → (asks : Type 0) → Parser S
     → Result (Unit {0}) Halt → Parser S → Type 0
 StepsOrFails holds limit asks old (Ok _) new =
@@ -135,4 +136,4 @@ StepsOrFails holds limit asks old (Ok _) new =
 StepsOrFails holds limit asks old (Err e) new =
     IfSome (halt_fault e) (HasFault 0 old.tape.source.now)
     × FromReading holds limit old (HoldsSome holds new.sink)
-    × (¬ asks → IfNone (halt_fault e) (Contains old.tape.source.now colon))
+    × (¬ asks → IfNone (halt_fault e) (ContainsDefault old.tape.source.now))

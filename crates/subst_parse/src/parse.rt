@@ -2,11 +2,12 @@
 //! sink holds the parts of the source's template. Otherwise it returns an error: the source's fault or out of
 //! memory.
 
-ghost use Rattle.std.specs.Prelude.{◌≡◌, ◌+◌, ◌-◌, ◌*◌, ◌<◌, ◌≤◌, ℕ, List, [], ◌∷◌, length, drop, slice_get, vec_len, IfErr, OnErr, OnOk, IsSomeAnd, IsTrue, ◌↔◌, Contains};
+ghost use Rattle.std.specs.Prelude.{◌≡◌, ◌+◌, ◌-◌, ◌*◌, ◌<◌, ◌≤◌, ℕ, List, [], ◌∷◌, length, drop, slice_get, vec_len, IfErr, OnErr, OnOk, IsSomeAnd, IsTrue, ◌↔◌};
 ghost use Rattle.subst_error.specs.ErrorFault.{parse_fault};
 ghost use Rattle.subst_error.specs.Fault.{MissingClosingBrace};
 ghost use Rattle.subst_language.specs.Language.Bytes.{IsPlain, dollar, colon, backslash, closing_brace};
 ghost use Rattle.subst_language.specs.Language.BadItem.{HasFault};
+ghost use Rattle.subst_language.specs.Calls.Clauses.{ContainsDefault};
 ghost use Rattle.subst_language.specs.Calls.Outcome.{OnFault, OnOutOfMemory};
 ghost use Rattle.subst_parse.specs.ByteRun.{IsRun};
 ghost use Rattle.subst_parse.specs.Cost.{GrowsBetween, StepReads, StepReadsAfterFirst};
@@ -66,7 +67,7 @@ pub fn parse_into<S: Sink>(
     ensures ok { OnOk result.2 ((first : S.First) → S.holds sink first []
         → HoldsTemplate (since S.holds first) source.now result.0) }
     ensures err { OnFault parse_fault result.2 (HasFault 0 source.now) }
-    ensures cause { ¬ S.asks → OnOutOfMemory parse_fault result.2 (Contains source.now colon) }
+    ensures cause { ¬ S.asks → OnOutOfMemory parse_fault result.2 (ContainsDefault source.now) }
     ensures held { OnErr result.2 ((first : S.First) → S.holds sink first []
         → HoldsSome S.holds result.0 first) }
     ensures bound { result.1 + 3 * plain ≤ reads + 3 * length source.now + 8 }
@@ -117,7 +118,7 @@ impl<'s, S: Sink> Parser<'s, S> {
             (FromReading S.holds S.limit self.old (HoldsSome S.holds self.new.sink)) }
         ensures err { OnFault halt_fault result (HasFault 0 self.old.tape.source.now) }
         ensures cause { ¬ S.asks
-            → OnOutOfMemory halt_fault result (Contains self.old.tape.source.now colon) }
+            → OnOutOfMemory halt_fault result (ContainsDefault self.old.tape.source.now) }
         ensures bound { self.new.tape.reads + 3 * self.old.at
             ≤ self.old.tape.reads + 3 * length self.old.tape.source.now + 8 }
         ensures grows { self.old.tape.reads ≤ self.new.tape.reads }
@@ -385,7 +386,7 @@ impl<'s, S: Sink> Parser<'s, S> {
             (FromReading S.holds S.limit self.old (HoldsSome S.holds self.new.sink)) }
         ensures err { OnFault halt_fault result (HasFault 0 self.old.tape.source.now) }
         ensures cause { ¬ S.asks
-            → OnOutOfMemory halt_fault result (Contains self.old.tape.source.now colon) }
+            → OnOutOfMemory halt_fault result (ContainsDefault self.old.tape.source.now) }
         ensures same { self.new.tape ≡ self.old.tape }
         ensures some { IfErr result (λ e. 0 < self.old.at) }
     {

@@ -1,18 +1,21 @@
 -- From the outcome of an expansion to the answer of the source.
-use Rattle.std.proofs.Common.{◌≡◌, ◌≤◌, ◌<◌, ℕ, ◌+◌, List, ◌++◌, [], ◌∷◌, Option, Some, None, IfErr, IfNone, IfSome, OnErr, OnOk, Result, Ok, Err, length, sym, ◌∙◌, subst}
+use Rattle.std.proofs.Common.{◌≡◌, ◌≤◌, ◌<◌, ℕ, ◌+◌, List, ◌++◌, [], ◌∷◌, Option, Some, None, IfErr, IfNone, IfSome, OnErr, OnOk, Result, Ok, Err, length, refl, sym, ◌∙◌, subst}
 use Rattle.std.proofs.lemmas.Str.{IsUtf8-append}
 use Rattle.std.specs.Option.{option_map}
 use Rattle.std.specs.Str.{IsUtf8}
-use Rattle.subst_error.specs.Fault.{Fault}
+use Rattle.subst_error.specs.Fault.{Fault, NoSuchVariable}
 use Rattle.subst_error.specs.ErrorFault.{expand_into_fault}
 use Rattle.subst_error.specs.Range.{IsRangeIn, range_of}
 use Rattle.subst_error.specs.declared.borrowed.ExpandIntoError.{ExpandIntoError}
 use Rattle.subst_language.specs.Language.Answer.{Answers, Gives, Refuses, IsMissing}
 use Rattle.subst_language.specs.Language.LookUp.{LookUp}
 use Rattle.subst_language.specs.Language.Sentence.{ByTree}
+use Rattle.subst_language.specs.Language.Value.{Value, Bytes, Missing, value}
 use Rattle.subst_language.specs.Language.Written.{written}
+use Rattle.subst_language.specs.Calls.Clauses.{HasOutput}
 use Rattle.subst_language.specs.Calls.VariableMap.{ByLookUp, ByNames, look_up_of}
-use Rattle.subst_language.proofs.Language.AlikeLemmas.{found_as_read}
+use Rattle.subst_language.proofs.CallingLemmas.{same_look_up}
+use Rattle.subst_language.proofs.Language.AlikeLemmas.{found_as_read, missing_by_names}
 use Rattle.subst_language.proofs.Language.AnswerLemmas.{refused_into}
 use Rattle.subst_language.proofs.Language.RangeLemmas.{error_in_text}
 use Rattle.subst_expand.specs.Expansion.{AppendsTemplate, IsExpansion}
@@ -23,22 +26,35 @@ use Rattle.subst_language.proofs.PartsLemmas.{same_value}
 
 module _ {V Seen : Type 0} (read : V → List ℕ) (is_read : List ℕ → Type 0) (see : V → Seen)
     (look_up : List ℕ → Option Seen) (s before after : List ℕ) (capacity len : ℕ) where
-  -- an expansion that succeeds
-  pub answers : (outcome : Result (Unit {0}) ExpandIntoError) → outcome ≡ Ok tt
-      → IsExpansion read is_read see look_up s before after capacity len outcome
-      → ByLookUp read see look_up
-      (λ look. (x : List ℕ) × Answers s look (Gives x) × (after ≡ before ++ x))
-  answers outcome is expansion =
-      of (subst (IsExpansion read is_read see look_up s before after capacity len) is expansion)
-    where
-      of : IsExpansion read is_read see look_up s before after capacity len (Ok tt)
-          → ByLookUp read see look_up
-          (λ look. (x : List ℕ) × Answers s look (Gives x) × (after ≡ before ++ x))
-      of done bytes reads =
-          let template = done.template in
-          let (x, gives, appended) = done.expands.value bytes reads in
-          let look = look_up_of bytes look_up in
-          (x, (template.tree, template.spells, sym (same_value template.mean look) ∙ gives), appended)
+  module _ (outcome : Result (Unit {0}) ExpandIntoError) (is : outcome ≡ Ok tt)
+      (expansion : IsExpansion read is_read see look_up s before after capacity len outcome) where
+    done : IsExpansion read is_read see look_up s before after capacity len (Ok tt)
+    done = subst (IsExpansion read is_read see look_up s before after capacity len) is expansion
+
+    -- an expansion that succeeds
+    pub answers : ByLookUp read see look_up
+        (λ look. (x : List ℕ) × Answers s look (Gives x) × (after ≡ before ++ x))
+    answers bytes reads =
+        let template = done.template in
+        let (x, gives, appended) = done.expands.value bytes reads in
+        let look = look_up_of bytes look_up in
+        (x, (template.tree, template.spells, sym (same_value template.mean look) ∙ gives), appended)
+
+    -- one that succeeds: the source has an output, whatever the values
+    pub completes : HasOutput look_up s
+    completes look names = of (value 0 done.template.tree look) refl
+      where
+        of : (v : Value) → value 0 done.template.tree look ≡ v → (x : List ℕ) × Answers s look (Gives x)
+        of (Bytes x) is = (x, (done.template.tree, done.template.spells, is))
+        of (Missing position name) is =
+            let f = NoSuchVariable position name in
+            let missing = subst (λ l. IsMissing (value 0 done.template.tree l) f) (sym (same_look_up look))
+            (position, name, is, refl) in
+            let (p, n, lacks, same) = missing_by_names done.template.tree (λ x. x) look (Some f) missing
+            (marks_of look_up) (λ n. found_as_read (λ _. mark ∷ []) (look_up n) ∙ sym (names n)) in
+            let (x, fills, appended) = done.expands.filled in
+            let given = sym (same_value done.template.mean (marks_of look_up)) ∙ fills.given in
+            absurd cc
 
   module _ (outcome : Result (Unit {0}) ExpandIntoError) (e : ExpandIntoError) (is : outcome ≡ Err e)
       (expansion : IsExpansion read is_read see look_up s before after capacity len outcome) where

@@ -6,7 +6,7 @@ ghost use Rattle.subst_error.specs.ErrorFault.{substitute_into_fault};
 ghost use Rattle.subst_language.specs.Language.Sentence.{IsSentence};
 ghost use Rattle.subst_language.specs.Calls.VariableMap.{ByLookUp};
 ghost use Rattle.subst_language.specs.Calls.Outcome.{SubstitutesInto};
-ghost use Rattle.subst_language.specs.Calls.Clauses.{ByWritten, NeedsMemory, OverflowsParsed, StatesRefusal, StatesKind, EndsWithin, IsRangedIn};
+ghost use Rattle.subst_language.specs.Calls.Clauses.{ByWritten, HasOutput, NeedsMemory, OverflowsParsed, StatesRefusal, StatesKind, EndsWithin, IsRangedIn};
 
 use crate::one_pass;
 use std::alloc::Global;
@@ -29,7 +29,8 @@ use subst_parse::plain_len;
 /// As [`substitute_bytes`](crate::substitute_bytes), with the name of a missing variable borrowed from the
 /// source. The items of `output` are then unchanged.
 ///
-/// - `Parse(OutOfMemory)` only if the source has a colon: open defaults are kept in memory.
+/// - `Parse(OutOfMemory)` only if a default begins in the source, as in `${name:`: open defaults are kept in
+///   memory.
 /// - `Expand(OutOfMemory)` only if the spare capacity of `output` is too small for the bytes to write: the
 ///   whole output or, if a variable is missing, the output before it.
 pub fn substitute_bytes_into<'s, 'a, M: VariableMap<'a>>(
@@ -49,15 +50,16 @@ where
     ensures kept { OnErr result (output.new.items ≡ output.old.items) }
     ensures capacity { vec_capacity output.old ≤ vec_capacity output.new }
 
-    // The parse runs out of memory only if the source has a colon. The expansion runs out of memory only if
-    // the spare capacity is too small for the bytes that it has to write.
+    // The parse runs out of memory only if a default begins in the source. The expansion runs out of memory
+    // only if the spare capacity is too small for the bytes that it has to write.
     ensures cause { NeedsMemory source.now result }
     ensures full { ByWritten M.Value.items M.see (M.look_up variables.now) source.now
         (OverflowsParsed (vec_capacity output.old) (vec_len output.old) result) }
 
-    // Only a sentence has an output or a missing variable; any other source has a fault. The range of an
-    // error ends within the source.
+    // Only a sentence has an output or a missing variable, and never both; any other source has a fault. The
+    // range of an error ends within the source.
     ensures sentence { IfOk result (λ done. IsSentence source.now) }
+    ensures complete { IfOk result (λ done. HasOutput (M.look_up variables.now) source.now) }
     ensures kind { StatesKind source.now result }
     ensures refusal { StatesRefusal (M.look_up variables.now) source.now
         substitute_into_fault result }
@@ -96,15 +98,16 @@ where
     ensures kept { OnErr result (string_bytes output.new ≡ string_bytes output.old) }
     ensures capacity { string_capacity output.old ≤ string_capacity output.new }
 
-    // The parse runs out of memory only if the source has a colon. The expansion runs out of memory only if
-    // the spare capacity is too small for the bytes that it has to write.
+    // The parse runs out of memory only if a default begins in the source. The expansion runs out of memory
+    // only if the spare capacity is too small for the bytes that it has to write.
     ensures cause { NeedsMemory source.now result }
     ensures full { ByWritten M.Value.text M.see (M.look_up variables.now) source.now
         (OverflowsParsed (string_capacity output.old) (string_len output.old) result) }
 
-    // Only a sentence has an output or a missing variable; any other source has a fault. The range of an
-    // error is in the source.
+    // Only a sentence has an output or a missing variable, and never both; any other source has a fault. The
+    // range of an error is in the source.
     ensures sentence { IfOk result (λ done. IsSentence source.now) }
+    ensures complete { IfOk result (λ done. HasOutput (M.look_up variables.now) source.now) }
     ensures kind { StatesKind source.now result }
     ensures refusal { StatesRefusal (M.look_up variables.now) source.now
         substitute_into_fault result }

@@ -10,7 +10,7 @@ ghost use Rattle.subst_language.specs.Language.Answer.{Answers};
 ghost use Rattle.subst_language.specs.Language.Sentence.{IsSentence};
 ghost use Rattle.subst_language.specs.Calls.VariableMap.{ByLookUp, ByNames};
 ghost use Rattle.subst_language.specs.Calls.Outcome.{answer_of, refusal_of};
-ghost use Rattle.subst_language.specs.Calls.Clauses.{EndsWithin, IsRangedIn};
+ghost use Rattle.subst_language.specs.Calls.Clauses.{EndsWithin, HasOutput, IsRangedIn};
 
 pub use into::{substitute_bytes_into, substitute_into};
 pub use owned::{is_plain, substitute_bytes_owned, substitute_owned};
@@ -66,9 +66,10 @@ where
     ensures answer { ByLookUp M.Value.items M.see (M.look_up variables.now)
         (λ look. IfSome (answer_of (λ output. output.items) result) (Answers source.now look)) }
 
-    // For any map: only a sentence has an output, and an error states the source's refusal, whose range ends
-    // within the source.
+    // For any map: only a sentence has an output, and only if no variable is missing. An error states the
+    // source's refusal, whose range ends within the source.
     ensures sentence { IfOk result (λ output. IsSentence source.now) }
+    ensures complete { IfOk result (λ output. HasOutput (M.look_up variables.now) source.now) }
     ensures refusal { ByNames (M.look_up variables.now)
         (λ look. IfSome (refusal_of result) (Answers source.now look)) }
     ensures range { EndsWithin source.now error_fault result }
@@ -108,9 +109,10 @@ where
         (λ look. IfSome (answer_of (λ output. string_bytes output) result)
         (Answers source.now look)) }
 
-    // For any map: only a sentence has an output. An error states the source's refusal, with a range in the
-    // source, as `source_line` and `source_highlighting` require.
+    // For any map: only a sentence has an output, and only if no variable is missing. An error states the
+    // source's refusal, with a range in the source, as `source_line` and `source_highlighting` require.
     ensures sentence { IfOk result (λ output. IsSentence source.now) }
+    ensures complete { IfOk result (λ output. HasOutput (M.look_up variables.now) source.now) }
     ensures refusal { ByNames (M.look_up variables.now)
         (λ look. IfSome (refusal_of result) (Answers source.now look)) }
     ensures range { IsRangedIn source.now error_fault result }

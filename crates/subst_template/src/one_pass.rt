@@ -1,15 +1,15 @@
 //! Parsing and expanding a source in one pass, without a list of its parts.
 
-ghost use Rattle.std.specs.Prelude.{◌≡◌, ◌+◌, ◌<◌, ◌≤◌, [], length, IfErr, IfNone, IfOk, IfSome, OnErr, OnOk, Contains};
+ghost use Rattle.std.specs.Prelude.{◌≡◌, ◌+◌, ◌<◌, ◌≤◌, [], length, IfErr, IfNone, IfOk, IfSome, OnErr, OnOk};
 ghost use Rattle.std.specs.Prelude.{string_bytes, string_capacity, string_len, vec_capacity, vec_len};
 ghost use Rattle.subst_error.specs.ErrorFault.{error_fault, expand_into_fault, parse_fault, substitute_into_fault};
 ghost use Rattle.subst_error.specs.Range.{range_of, IsRangeIn};
 ghost use Rattle.subst_language.specs.Language.Answer.{Answers, Refuses};
 ghost use Rattle.subst_language.specs.Language.BadItem.{HasFault};
-ghost use Rattle.subst_language.specs.Language.Bytes.{IsPlain, colon};
+ghost use Rattle.subst_language.specs.Language.Bytes.{IsPlain};
 ghost use Rattle.subst_language.specs.Language.Sentence.{ByTree, IsSentence};
 ghost use Rattle.subst_language.specs.Language.Written.{written};
-ghost use Rattle.subst_language.specs.Calls.Clauses.{NeedsMemory};
+ghost use Rattle.subst_language.specs.Calls.Clauses.{ContainsDefault, HasOutput, NeedsMemory};
 ghost use Rattle.subst_language.specs.Calls.Outcome.{answer_of, refusal_of, IfRefused, OnFault, OnOutOfMemory, SubstitutesInto};
 ghost use Rattle.subst_language.specs.Calls.VariableMap.{ByLookUp, ByNames};
 ghost use Rattle.subst_parse.specs.ByteRun.{IsRun};
@@ -49,14 +49,15 @@ where
     ensures kept { OnErr result (output.new.items ≡ output.old.items) }
     ensures capacity { vec_capacity output.old ≤ vec_capacity output.new }
 
-    // The parse runs out of memory only if the source has a colon. The expansion runs out of memory only if
-    // the spare capacity is too small for the bytes that it has to write.
+    // The parse runs out of memory only if a default begins in the source. The expansion runs out of memory
+    // only if the spare capacity is too small for the bytes that it has to write.
     ensures full { ByLookUp R.read M.see (M.look_up variables.now)
         (λ look. ByTree source.now (λ t. IfRefused result (λ e. Unit {0})
         (λ e. IfNone (expand_into_fault e)
         (vec_capacity output.old < vec_len output.old + length (written 0 t look))))) }
     ensures cause { NeedsMemory source.now result }
     ensures sentence { IfOk result (λ done. IsSentence source.now) }
+    ensures complete { IfOk result (λ done. HasOutput (M.look_up variables.now) source.now) }
     ensures kind { IfRefused result (λ e. IfSome (parse_fault e) (HasFault 0 source.now))
         (λ e. IsSentence source.now) }
     ensures refusal { ByNames (M.look_up variables.now) (λ look. IfErr result
@@ -92,6 +93,7 @@ where
     ensures answer { ByLookUp R.read M.see (M.look_up variables.now)
         (λ look. IfSome (answer_of (λ output. output.items) result) (Answers source.now look)) }
     ensures sentence { IfOk result (λ output. IsSentence source.now) }
+    ensures complete { IfOk result (λ output. HasOutput (M.look_up variables.now) source.now) }
     ensures refusal { ByNames (M.look_up variables.now)
         (λ look. IfSome (refusal_of result) (Answers source.now look)) }
     ensures range { IfErr result (λ e. (range_of (error_fault e)).end ≤ length source.now) }
@@ -131,6 +133,7 @@ where
         (string_capacity output.old < string_len output.old + length (written 0 t look))))) }
     ensures cause { NeedsMemory source.now result }
     ensures sentence { IfOk result (λ done. IsSentence source.now) }
+    ensures complete { IfOk result (λ done. HasOutput (M.look_up variables.now) source.now) }
     ensures kind { IfRefused result (λ e. IfSome (parse_fault e) (HasFault 0 source.now))
         (λ e. IsSentence source.now) }
     ensures refusal { ByNames (M.look_up variables.now) (λ look. IfErr result
@@ -164,6 +167,7 @@ where
         (λ look. IfSome (answer_of (λ output. string_bytes output) result)
         (Answers source.now look)) }
     ensures sentence { IfOk result (λ output. IsSentence source.now) }
+    ensures complete { IfOk result (λ output. HasOutput (M.look_up variables.now) source.now) }
     ensures refusal { ByNames (M.look_up variables.now)
         (λ look. IfSome (refusal_of result) (Answers source.now look)) }
     ensures range { IfErr result (λ e. IsRangeIn source.now (range_of (error_fault e))) }
@@ -172,12 +176,12 @@ where
     Ok(text_of(substitute::<M, TextBytes>(alloc, source, plain, extra, variables)?))
 }
 
-/// Appends the output of a source to `output`, as `substitute_into`.
+/// Appends the output of a source to `output`, as `substitute_into` does.
 ///
 /// # Errors
 ///
 /// The outer error is that of the parse: the source's fault if it is no sentence, or out of memory. The parse
-/// runs out of memory only if the source has a colon.
+/// runs out of memory only if a default begins in the source.
 ///
 /// The inner error is that of the expansion: `NoSuchVariable` for the first needed name without a value, or
 /// out of memory. The expansion runs out of memory only if the capacity of `output` is too small. After
@@ -193,7 +197,7 @@ where
     M::Value: Drop,
     requires { IsRun IsPlain source.now 0 plain }
     ensures refused { OnFault parse_fault result (HasFault 0 source.now) }
-    ensures cause { OnOutOfMemory parse_fault result (Contains source.now colon) }
+    ensures cause { OnOutOfMemory parse_fault result (ContainsDefault source.now) }
     ensures kept { OnErr result (output.new.items ≡ output.old.items) }
     ensures capacity { vec_capacity output.old ≤ vec_capacity output.new }
     ensures expanded { let before = output.old in IfOk result (IsExpansion R.read R.is_read M.see

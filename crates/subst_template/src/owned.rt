@@ -9,7 +9,7 @@ ghost use Rattle.subst_language.specs.Language.Bytes.{IsPlain};
 ghost use Rattle.subst_language.specs.Language.Sentence.{IsSentence};
 ghost use Rattle.subst_language.specs.Calls.VariableMap.{ByLookUp, ByNames};
 ghost use Rattle.subst_language.specs.Calls.Outcome.{answer_of, refusal_of};
-ghost use Rattle.subst_language.specs.Calls.Clauses.{EndsWithin, IsRangedIn};
+ghost use Rattle.subst_language.specs.Calls.Clauses.{EndsWithin, HasOutput, IsRangedIn};
 
 use crate::one_pass;
 use std::alloc::Global;
@@ -35,8 +35,8 @@ pub fn is_plain(source: &[u8]) -> bool
     plain_len(source) == source.len()
 }
 
-/// Expands the bytes of an owned `source`, as [`substitute_bytes`]. A source without `$` and `\` is returned
-/// as it is, without allocating.
+/// Expands the bytes of an owned `source`, as [`substitute_bytes`] does. A source without `$` and `\` is
+/// returned as it is, without allocating.
 ///
 /// ```rust
 /// let source = Vec::from_slice(alloc, b"Hello ${name:nobody}!")?;
@@ -60,9 +60,10 @@ where
         (λ look. IfSome (answer_of (λ output. output.items) result)
         (Answers source.items look)) }
 
-    // For any map: only a sentence has an output, and an error states the source's refusal, whose range ends
-    // within the source.
+    // For any map: only a sentence has an output, and only if no variable is missing. An error states the
+    // source's refusal, whose range ends within the source.
     ensures sentence { IfOk result (λ output. IsSentence source.items) }
+    ensures complete { IfOk result (λ output. HasOutput (M.look_up variables.now) source.items) }
     ensures refusal { ByNames (M.look_up variables.now)
         (λ look. IfSome (refusal_of result) (Answers source.items look)) }
     ensures range { EndsWithin source.items error_fault result }
@@ -77,7 +78,7 @@ where
     one_pass::substitute::<M, SliceBytes>(alloc, &source, plain, KEPT_CAPACITY, variables)
 }
 
-/// Expands an owned text `source`, as [`substitute`]. A source without `$` and `\` is returned as it is,
+/// Expands an owned text `source`, as [`substitute`] does. A source without `$` and `\` is returned as it is,
 /// without allocating.
 ///
 /// ```rust
@@ -102,9 +103,11 @@ where
         (λ look. IfSome (answer_of (λ output. string_bytes output) result)
         (Answers (string_bytes source) look)) }
 
-    // For any map: only a sentence has an output. An error states the source's refusal, with a range in the
-    // source, as `source_line` and `source_highlighting` require.
+    // For any map: only a sentence has an output, and only if no variable is missing. An error states the
+    // source's refusal, with a range in the source, as `source_line` and `source_highlighting` require.
     ensures sentence { IfOk result (λ output. IsSentence (string_bytes source)) }
+    ensures complete { IfOk result
+        (λ output. HasOutput (M.look_up variables.now) (string_bytes source)) }
     ensures refusal { ByNames (M.look_up variables.now)
         (λ look. IfSome (refusal_of result) (Answers (string_bytes source) look)) }
     ensures range { IsRangedIn (string_bytes source) error_fault result }

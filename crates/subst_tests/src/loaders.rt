@@ -45,7 +45,7 @@ fn loaded_json(alloc: Global, source: &str) -> Result<String, AllocError> {
     let defaults = named(alloc, "user", "nobody")?;
     match config::load(alloc, "web.json", source, &environment, &defaults)? {
         Loaded::Configuration(tree) => tree.to_string(alloc),
-        Loaded::Report(report) => Ok(report),
+        Loaded::Refused(_, report) => Ok(report),
     }
 }
 
@@ -124,7 +124,7 @@ fn loaded_toml(alloc: Global, source: &str) -> Result<String, AllocError> {
             table_to_string(alloc, &table).map_err(|_| AllocError)
         }
         Loaded::Configuration(tree) => tree.to_string(alloc),
-        Loaded::Report(report) => Ok(report),
+        Loaded::Refused(_, report) => Ok(report),
     }
 }
 
@@ -213,14 +213,23 @@ struct Server {
 fn loaded_server(alloc: Global, file: &str, source: &str) -> Result<String, AllocError> {
     let environment = one_pair(alloc, "HOST", "db")?;
     let defaults = named(alloc, "DOMAIN", "example.org")?;
-    let loaded: Loaded<Server> = if file.ends_with(".json") {
-        config::load_as(alloc, file, source, &environment, &defaults)?
+    if file.ends_with(".json") {
+        shown(
+            alloc,
+            config::load_as(alloc, file, source, &environment, &defaults)?,
+        )
     } else {
-        settings::load_as(alloc, file, source, &environment, &defaults)?
-    };
+        shown(
+            alloc,
+            settings::load_as(alloc, file, source, &environment, &defaults)?,
+        )
+    }
+}
+
+fn shown<E: Drop>(alloc: Global, loaded: Loaded<Server, E>) -> Result<String, AllocError> {
     match loaded {
         Loaded::Configuration(server) => format!(in alloc; "{server:?}"),
-        Loaded::Report(report) => Ok(report),
+        Loaded::Refused(_, report) => Ok(report),
     }
 }
 

@@ -123,7 +123,7 @@ abbrev pub strings_in : List ℕ → Option (List Spelled)
 strings_in text =
     strings_from (suc (length text)) (record { len = length text; brackets = []; found = [] }) (skip_bom text)
 
--- a `Scanner` of the code as a `Scanner` of these definitions
+-- a `Scanner` of the code, converted to a `Scanner` of these definitions
 abbrev pub scanner_of : code.Scanner → Scanner
 scanner_of p = record {
   len = p.source_len;

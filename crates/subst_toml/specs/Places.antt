@@ -31,13 +31,17 @@ IsInNewline x offset =
     (length x ≡ offset + 1) × (slice_index x (offset - 1) ≡ carriage_return)
     × (slice_index x offset ≡ line_feed)
 
--- `place` is within the token at `token`, and `range` ends within the token's string. If the token ended at
--- the start of `place`, its string would end at the start of `range`. If it ended at the end of `place`, its
--- string would end at the end of `range`, or after the newline inside which `range` ends.
+-- the string `whole` begins with x
+abbrev pub BeginsWith : (whole : List ℕ) → List ℕ → Type 0
+BeginsWith whole x = x ≡ slice_range whole 0 (length x)
+
+-- `place` is within the token at `token`, and spells `range` of the token's string. Up to the start of
+-- `place`, the token spells the string up to the start of `range`, and likewise for the ends. If `range` ends
+-- inside a newline, `place` ends after that newline.
 abbrev pub IsPlaceIn : List ℕ → Range ℕ → Range ℕ → Range ℕ → Type 0
 IsPlaceIn s token range place =
     IsRangeIn s place × (token.start ≤ place.start) × (place.start ≤ place.end) × (place.end ≤ token.end)
-    × ((x : List ℕ) × IsTokenOf (part_at s token) x × (range.end ≤ length x))
-    × ((x : List ℕ) × IsReadUpTo s token place.start x × (length x ≡ range.start))
-    × ((x : List ℕ) × IsReadUpTo s token place.end x
-    × ((length x ≡ range.end) ⊎ IsInNewline x range.end))
+    × ((whole : List ℕ) × IsTokenOf (part_at s token) whole × (range.end ≤ length whole)
+    × ((x : List ℕ) × IsReadUpTo s token place.start x × BeginsWith whole x × (length x ≡ range.start))
+    × ((x : List ℕ) × IsReadUpTo s token place.end x × BeginsWith whole x
+    × ((length x ≡ range.end) ⊎ IsInNewline x range.end)))

@@ -58,7 +58,7 @@ where
     fill_in_by(alloc, source, &Filler { variables })
 }
 
-/// Fills in the strings of `source`, the bytes of a TOML document, as [`fill_in`].
+/// Fills in the strings of `source`, the bytes of a TOML document, as [`fill_in`] does.
 ///
 /// # Errors
 ///
@@ -76,7 +76,7 @@ where
     fill_in(alloc, text_of(source)?, variables)
 }
 
-/// Fills in the strings of a TOML document by `filler`, as [`fill_in`].
+/// Fills in the strings of a TOML document by `filler`, as [`fill_in`] does.
 ///
 /// # Errors
 ///

@@ -128,7 +128,7 @@ where
     Ok(Value::Table(filled_table(alloc, source, variables)?))
 }
 
-/// Reads a TOML document from bytes, and fills in its strings, as [`value_from_str`].
+/// Reads a TOML document from bytes, and fills in its strings, as [`value_from_str`] does.
 ///
 /// # Errors
 ///
@@ -188,7 +188,8 @@ where
     Ok(T::from_text(alloc, text.as_str())?)
 }
 
-/// Reads a TOML document from bytes, fills in its strings, and converts the tree into a `T`, as [`from_str`].
+/// Reads a TOML document from bytes, fills in its strings, and converts the tree into a `T`, as [`from_str`]
+/// does.
 ///
 /// # Errors
 ///

@@ -7,7 +7,7 @@ ghost use Rattle.toml.specs.View.{view, table_view};
 ghost use Rattle.subst_error.specs.Range.{IsRangeIn};
 ghost use Rattle.subst_document.specs.Paths.{step_of};
 ghost use Rattle.subst_toml.specs.Paths.{Leads};
-ghost use Rattle.subst_toml.specs.Places.{part_at, quotes_of, IsTokenOf, IsInNewline, IsPlaceIn};
+ghost use Rattle.subst_toml.specs.Places.{part_at, quotes_of, BeginsWith, IsTokenOf, IsInNewline, IsPlaceIn};
 
 use std::alloc::{AllocError, Global};
 use std::ops::Range;
@@ -63,6 +63,8 @@ pub fn place_in(
     if place.start <= place.end
         && place.end <= token.end
         && range.end <= whole.len()
+        && begins_with(&whole, &start)
+        && begins_with(&whole, &end)
         && start.len() == range.start
         && (end.len() == range.end || is_in_newline(end.as_bytes(), range.end))
     {
@@ -102,6 +104,16 @@ pub(crate) fn quotes(token: &str) -> Option<&str>
         token.get(..3)
     } else {
         token.get(..1)
+    }
+}
+
+/// Returns whether `whole` begins with `read`.
+fn begins_with(whole: &str, read: &str) -> bool
+    ensures { IsTrue result → BeginsWith whole.now read.now }
+{
+    match slice(whole, &(0..read.len())) {
+        Some(beginning) => read == beginning,
+        None => false,
     }
 }
 

@@ -1,7 +1,6 @@
 pub mod ComposeLemmas
 pub mod ConfigLemmas
 pub mod LineLemmas
-pub mod LoaderLemmas
 pub mod NameLemmas
 pub mod ReportLemmas
 pub mod SettingsLemmas

@@ -5,7 +5,7 @@ ghost use Rattle.std.specs.Prelude.{◌≡◌, ◌≤◌, length, IfErr, IfOk, I
 ghost use Rattle.subst.specs.ErrorFault.{error_fault};
 ghost use Rattle.subst.specs.Range.{range_of};
 ghost use Rattle.subst.specs.Language.Answer.{Answers, Refuses};
-ghost use Rattle.subst.specs.Language.Sentence.{IsSentence};
+ghost use Rattle.subst.specs.Calls.Clauses.{HasOutput};
 ghost use Rattle.subst.specs.Calls.VariableMap.{ByNames};
 ghost use Rattle.subst.specs.Calls.Outcome.{OnFault, answer_of};
 
@@ -34,7 +34,7 @@ pub fn filled_or_refused<'a, M: VariableMap<'a>>(
 ) -> Result<Vec<u8>, Refusal>
 where
     M::Value: AsSlice<u8> + Drop,
-    ensures sentence { IfOk result (λ output. IsSentence source.now) }
+    ensures complete { IfOk result (λ output. HasOutput (M.look_up variables.now) source.now) }
     ensures refusal { ByNames (M.look_up variables.now)
         (λ look. OnFault (λ refusal. error_fault refusal.error) result
         (λ f. Answers source.now look (Refuses f))) }

@@ -9,18 +9,20 @@ use serde::DeserializeOwned;
 use serde_json::Value;
 use std::alloc::{AllocError, Global};
 use std::collections::BTreeMap;
-use subst::{Env, Layered, json};
+use subst::json::{Error, from_str, report, value_from_str};
+use subst::{Env, Layered};
 
-/// A configuration, or a report of its errors.
+/// A configuration, or its errors.
 #[derive(Drop)]
-pub enum Loaded<T> {
+pub enum Loaded<T, E> {
     /// The configuration, with its strings filled in.
     Configuration(T),
-    /// The report of the file's errors, made by the function `report` of `json` or `toml`.
-    Report(String),
+    /// The error of the reader or of the first refused string, and the report of the file's errors. The
+    /// function `report` of `json` or `toml` makes the report.
+    Refused(E, String),
 }
 
-/// Returns the configuration of a file, or a report of its errors.
+/// Returns the configuration of a file, or its errors with their report.
 ///
 /// # Errors
 ///
@@ -31,7 +33,7 @@ pub fn load(
     source: &str,
     environment: &Env,
     defaults: &BTreeMap<String, String>,
-) -> Result<Loaded<Value>, AllocError>
+) -> Result<Loaded<Value, Error>, AllocError>
     ensures { IfOk result
         (IsLoaded (answers_of environment.now defaults.now) file.now source.now) }
 {
@@ -39,13 +41,16 @@ pub fn load(
         first: environment,
         second: defaults,
     };
-    match json::value_from_str(alloc, source, &variables) {
+    match value_from_str(alloc, source, &variables) {
         Ok(tree) => Ok(Loaded::Configuration(tree)),
-        Err(e) => Ok(Loaded::Report(json::report(alloc, file, source, &variables, &e)?)),
+        Err(e) => {
+            let report = report(alloc, file, source, &variables, &e)?;
+            Ok(Loaded::Refused(e, report))
+        }
     }
 }
 
-/// Returns the configuration of a file as a `T`, or a report of the file's errors.
+/// Returns the configuration of a file as a `T`, or the file's errors with their report.
 ///
 /// # Errors
 ///
@@ -56,7 +61,7 @@ pub fn load_as<T: DeserializeOwned>(
     source: &str,
     environment: &Env,
     defaults: &BTreeMap<String, String>,
-) -> Result<Loaded<T>, AllocError>
+) -> Result<Loaded<T, Error>, AllocError>
     ensures { IfOk result
         (IsLoadedAs (answers_of environment.now defaults.now) file.now source.now) }
 {
@@ -64,8 +69,11 @@ pub fn load_as<T: DeserializeOwned>(
         first: environment,
         second: defaults,
     };
-    match json::from_str(alloc, source, &variables) {
+    match from_str(alloc, source, &variables) {
         Ok(value) => Ok(Loaded::Configuration(value)),
-        Err(e) => Ok(Loaded::Report(json::report(alloc, file, source, &variables, &e)?)),
+        Err(error) => {
+            let report = report(alloc, file, source, &variables, &error)?;
+            Ok(Loaded::Refused(error, report))
+        }
     }
 }

@@ -9,11 +9,11 @@ use crate::config::Loaded;
 use serde::DeserializeOwned;
 use std::alloc::{AllocError, Global};
 use std::collections::BTreeMap;
-use subst::toml::{from_str, report, value_from_str};
+use subst::toml::{Error, from_str, report, value_from_str};
 use subst::{Env, Layered};
 use toml::Value;
 
-/// Returns the settings of a file, or a report of the file's errors.
+/// Returns the settings of a file, or its errors with their report.
 ///
 /// # Errors
 ///
@@ -24,7 +24,7 @@ pub fn load(
     source: &str,
     environment: &Env,
     defaults: &BTreeMap<String, String>,
-) -> Result<Loaded<Value>, AllocError>
+) -> Result<Loaded<Value, Error>, AllocError>
     ensures { IfOk result
         (AreLoaded (answers_of environment.now defaults.now) file.now source.now) }
 {
@@ -34,11 +34,14 @@ pub fn load(
     };
     match value_from_str(alloc, source, &variables) {
         Ok(tree) => Ok(Loaded::Configuration(tree)),
-        Err(e) => Ok(Loaded::Report(report(alloc, file, source, &variables, &e)?)),
+        Err(e) => {
+            let report = report(alloc, file, source, &variables, &e)?;
+            Ok(Loaded::Refused(e, report))
+        }
     }
 }
 
-/// Returns the settings of a file as a `T`, or a report of the file's errors.
+/// Returns the settings of a file as a `T`, or the file's errors with their report.
 ///
 /// # Errors
 ///
@@ -49,7 +52,7 @@ pub fn load_as<T: DeserializeOwned>(
     source: &str,
     environment: &Env,
     defaults: &BTreeMap<String, String>,
-) -> Result<Loaded<T>, AllocError>
+) -> Result<Loaded<T, Error>, AllocError>
     ensures { IfOk result
         (AreLoadedAs (answers_of environment.now defaults.now) file.now source.now) }
 {
@@ -59,6 +62,9 @@ pub fn load_as<T: DeserializeOwned>(
     };
     match from_str(alloc, source, &variables) {
         Ok(settings) => Ok(Loaded::Configuration(settings)),
-        Err(e) => Ok(Loaded::Report(report(alloc, file, source, &variables, &e)?)),
+        Err(error) => {
+            let report = report(alloc, file, source, &variables, &error)?;
+            Ok(Loaded::Refused(error, report))
+        }
     }
 }

@@ -21,7 +21,7 @@ abbrev pub up_to_range : List ℕ → (from : ℕ) → Range ℕ → List ℕ
 up_to_range text from range =
     slice_range text from range.start ++ sentinel ∷ (slice_range text range.start range.end ++ sentinel ∷ [])
 
--- the text from one offset to another, with sentinels at both ends of each of these ranges
+-- the text from one offset to another, with sentinels at both ends of each of the given ranges
 abbrev pub with_sentinels : List ℕ → (from : ℕ) → List (Range ℕ) → (to : ℕ) → List ℕ
 with_sentinels text from [] to = slice_range text from to
 with_sentinels text from (range ∷ ranges) to =

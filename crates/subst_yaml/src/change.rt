@@ -19,7 +19,7 @@ use subst_yaml_reader::{Style, value_of};
 pub(crate) enum Change {
     /// The value is unchanged.
     Kept,
-    /// The value's string is replaced by this string.
+    /// The string that replaces the value's string.
     Replaced(String),
 }
 

@@ -56,7 +56,7 @@ where
     fill_in_by(alloc, source, &Filler { variables })
 }
 
-/// Reads a text of YAML from bytes, and fills in its values, as [`fill_in`].
+/// Reads a text of YAML from bytes, and fills in its values, as [`fill_in`] does.
 ///
 /// # Errors
 ///
@@ -91,7 +91,7 @@ fn not_utf8(source: &[u8], start: usize) -> Fault
     }
 }
 
-/// Fills in the values of a text of YAML by `filler`, as [`fill_in`]. A string for which
+/// Fills in the values of a text of YAML by `filler`, as [`fill_in`] does. A string for which
 /// [`Fill::needs_no_filling`] returns `true` isn't filled in.
 ///
 /// # Errors

@@ -1,8 +1,9 @@
 //! Spells values whose old tokens have several lines. Such a value keeps its lines if each line can be filled
 //! in by itself.
 //!
-//! No contract states how tokens are spelled. A token that is filled in line by line is used only if it is
-//! read as the value. The output is also compared with the source.
+//! No contract states how tokens are spelled. A token that is filled in line by line is used only if reading
+//! it back gives the value. The whole output is read again too: apart from the values that are filled in, it
+//! must equal the source.
 
 use crate::change::{Change, change_of, string_of};
 use crate::spell::{

@@ -82,7 +82,7 @@ fn path_step(alloc: Global, text: &[u8], step: StepAt) -> Result<PathStep, Alloc
 }
 
 impl Trail {
-    /// Creates the trail before the first document.
+    /// Creates the initial trail. Its position is before the first document.
     pub(crate) fn new(alloc: Global) -> Trail
         ensures { trail_of result ≡ start }
     {

@@ -294,7 +294,7 @@ const REASONS: [(Reason, &str); 23] = [
     ),
     (
         Reason::BlockHeader,
-        "text after '|' or '>', or a whole document in this style",
+        "text on the same line after '|' or '>' isn't supported, nor a document that is only a '|' or '>' block",
     ),
     (
         Reason::BlockSpaces,

@@ -239,8 +239,8 @@ abbrev pub may_open : (column : ℕ) → (is_item : Bool) → State → Bool
 may_open column is_item s = is_value s.next
     && (is_past (outer_column s) column || (is_item && is_mapping_at column (innermost s.blocks)))
 
--- a turn at a token at `column`: at the start of a value if `may_open` allows one there, and otherwise at an
--- entry of an open collection
+-- a turn at a token in the column `column`: the token begins a value if `may_open` allows one there, and
+-- otherwise an entry of an open collection
 unfoldable pub line_turn : (column : ℕ) → State → List ℕ → Turn
 line_turn column s text =
     if not (may_open column (is_mark hyphen text) s)
@@ -248,7 +248,7 @@ line_turn column s text =
     else if is_mark hyphen text then item (push_block Sequence column s) text
     else node (Open column) s text
 
--- a turn at a token as for `line_turn`; if no document has begun yet, the first one begins at this token
+-- a turn at a token, as in `line_turn`; if no document has begun yet, the first one begins at this token
 unfoldable pub fresh_turn : (column : ℕ) → State → List ℕ → Turn
 fresh_turn column s text = elim s.next [
   | next.Start ↦ line_turn column (with_next next.Value (emit Document s)) text

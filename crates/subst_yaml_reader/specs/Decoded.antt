@@ -73,8 +73,8 @@ double held (b ∷ rest) =
     ]
 
 -- The lines of a block scalar, each without its indentation of `indent` bytes. Each line end becomes a line
--- feed. If `in_text`, the text begins after the indentation of its first line; otherwise it begins after
--- `column` bytes of this indentation.
+-- feed. The list is what remains of the scalar. If `in_text`, the indentation of its first line is already
+-- removed; otherwise `column` bytes of this indentation are.
 unfoldable pub lines_of : (indent : ℕ) → (in_text : Bool) → (column : ℕ) → List ℕ → List ℕ
 lines_of indent in_text column [] = []
 lines_of indent in_text column (b ∷ rest) =

@@ -28,7 +28,8 @@ display_of_reason reason.Escape = codes "an unknown escape"
 display_of_reason reason.Bracket =
     codes "a missing closing bracket, or a bracket or comma out of place"
 display_of_reason reason.FlowLines = codes "a value over several lines in brackets; quote it"
-display_of_reason reason.BlockHeader = codes "text after '|' or '>', or a whole document in this style"
+display_of_reason reason.BlockHeader =
+    codes "text on the same line after '|' or '>' isn't supported, nor a document that is only a '|' or '>' block"
 display_of_reason reason.BlockSpaces = codes "a line of spaces before the first line of text after '|' or '>'"
 display_of_reason reason.Indicator = codes "a value can't begin with this character; quote it"
 display_of_reason reason.Character = codes "a character that some YAML readers reject"

@@ -148,9 +148,9 @@ abbrev pub closes : Escape → ℕ → Bool
 closes Nothing b = b == double_quote
 closes _ b = false
 
--- The text after the closing double quote. The argument begins inside the quotes, in the state `held` of an
--- escape. The result is `None` if no quote closes them, an escape in them is wrong, or a line in them begins
--- with a document mark.
+-- The text after the closing double quote. The list begins inside the quotes, and `held` is the state of the
+-- escape there. The result is `None` if no quote closes the value, if an escape is wrong, or if a line
+-- begins with a document mark.
 unfoldable pub after_double : Escape → List ℕ → Option (List ℕ)
 after_double held [] = None
 after_double held (b ∷ rest) =

@@ -88,7 +88,8 @@ impl Reason {
             Reason::Escape => "an unknown escape",
             Reason::Bracket => "a missing closing bracket, or a bracket or comma out of place",
             Reason::FlowLines => "a value over several lines in brackets; quote it",
-            Reason::BlockHeader => "text after '|' or '>', or a whole document in this style",
+            Reason::BlockHeader =>
+                "text on the same line after '|' or '>' isn't supported, nor a document that is only a '|' or '>' block",
             Reason::BlockSpaces =>
                 "a line of spaces before the first line of text after '|' or '>'",
             Reason::Indicator => "a value can't begin with this character; quote it",

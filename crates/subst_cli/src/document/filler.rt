@@ -3,8 +3,7 @@
 ghost use Rattle.std.specs.Prelude.{◌≡◌, IfOk, Some, string_bytes};
 ghost use Rattle.subst.specs.ErrorFault.{error_fault};
 ghost use Rattle.subst.specs.Fault as faults;
-ghost use Rattle.subst_cli.specs.Faults.{IsFaultOf};
-ghost use Rattle.subst_cli.specs.Strings.{AreFaults, GivesSome};
+ghost use Rattle.subst_cli.specs.Strings.{AreFaults};
 
 use crate::fault::Fault;
 use crate::layers::Variables;
@@ -33,8 +32,7 @@ impl StringFiller<'_, '_, '_> {
     ///
     /// If allocation fails.
     pub fn faults(&self, alloc: Global, text: &str) -> Result<Vec<Fault>, AllocError>
-        ensures { IfOk result (λ faults. AreFaults self.now (GivesSome self.now text.now)
-            (λ entries. IsFaultOf self.now.placeholders.now entries text.now) faults.items) }
+        ensures { IfOk result (λ faults. AreFaults self.now text.now faults.items) }
     {
         let source = text.as_bytes();
         let faults = match self.variables {

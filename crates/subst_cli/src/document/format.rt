@@ -9,7 +9,7 @@ ghost use Rattle.subst.specs.Toml.Outcome.{OnToml};
 ghost use Rattle.subst.specs.Toml.error as toml_errors;
 ghost use Rattle.subst.specs.Yaml.error as yaml_errors;
 ghost use Rattle.subst_yaml.specs.declared.error.Fault.{Fault as YamlFault};
-ghost use Rattle.subst_cli.specs.Documents.{format_of, AreFound, ArePlaces, FindsIn, IsKept, IsNoDocument, IsUnfilled, RefusesString, IsStringIn};
+ghost use Rattle.subst_cli.specs.Documents.{format_of, AreFound, ArePlaces, FindsIn, IsKept, IsKeptIn, IsNoDocument, IsUnfilled, RefusesString};
 ghost use Rattle.subst_cli.specs.Fill.{GivesFor, IsDocumentOutput};
 ghost use Rattle.subst_cli.specs.Layers.{Entry};
 ghost use Rattle.subst_cli.specs.Strings.{FillsFrom};
@@ -84,7 +84,7 @@ impl Format {
         filler: &StringFiller<'_, '_, '_>,
     ) -> Read<Vec<RefusedAt>>
         ensures strings { IfOk result (λ refused. IfOk refused (λ refused.
-            All (λ it. IsStringIn self text.now (string_bytes it.0) it.1) refused.items)) }
+            All (IsKeptIn self text.now) refused.items)) }
         ensures unfilled { IfOk result
             (λ refused. IfErr refused (IsUnfilled (IsNoDocument self text.now) ⊥)) }
     {

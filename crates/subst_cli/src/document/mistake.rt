@@ -71,7 +71,11 @@ pub(crate) fn unread(alloc: Global, text: &str, stop: ReaderStop) -> Result<Unfi
             return Ok(Unfilled::Unread(offset..offset, Cause::Mistake(mistake)));
         }
     }
-    let ReaderStop { offset, message } = stop;
+    let ReaderStop {
+        offset,
+        message,
+        ..
+    } = stop;
     Ok(Unfilled::Unread(offset..offset, Cause::NotADocument(message)))
 }
 
@@ -270,10 +274,6 @@ fn is_lone(bytes: &[u8]) -> bool
 }
 
 /// Returns how many bytes to skip after the first: 11 for a surrogate pair, 1 for another escape, or else 0.
-/// The bytes don't begin with a lone surrogate.
-/// The bytes don't begin with a lone surrogate.
-/// The bytes don't begin with a lone surrogate.
-/// The bytes don't begin with a lone surrogate.
 /// The bytes don't begin with a lone surrogate.
 fn bytes_after(bytes: &[u8]) -> u8
     ensures { result ≡ after_first bytes.now }

@@ -8,15 +8,11 @@ ghost use Rattle.subst_cli.specs.declared.dotenv.shell_text.Quote.TheVariants.{B
 ghost use Rattle.subst_language.specs.Language.Name as name;
 
 use crate::dotenv::shell_text::{Quote, Text, begins_with, text_in};
-use crate::values_file::{after_blanks, first_line, is_blank, is_ignored, without_return};
+use crate::values_file::{
+    after_blanks, first_line, is_blank, is_ignored, message_of, without_return,
+};
 use std::alloc::{AllocError, Global};
 use subst::is_name;
-
-/// The message of a line without `=`.
-const NO_SIGN: &str = "missing '='";
-
-/// The message of a line whose name isn't a variable name.
-const MISSPELLED: &str = "not a variable name";
 
 /// The message of a value whose quote never closes.
 const UNCLOSED: &str = "missing closing quote";
@@ -69,10 +65,10 @@ fn named_line(alloc: Global, text: &[u8]) -> Result<Line<'_>, AllocError>
         return Ok(Line::Wrong(wrong_message(text)));
     }
     let Ok(name) = str::from_utf8(name) else {
-        return Ok(Line::Wrong(MISSPELLED));
+        return Ok(Line::Wrong(wrong_message(text)));
     };
     let Some((first, value)) = after_blanks(after).split_first() else {
-        return Ok(Line::Wrong(NO_SIGN));
+        return Ok(Line::Wrong(wrong_message(text)));
     };
     if *first != b'=' {
         return Ok(Line::Wrong(wrong_message(text)));
@@ -81,13 +77,11 @@ fn named_line(alloc: Global, text: &[u8]) -> Result<Line<'_>, AllocError>
 }
 
 /// Returns the message of a line without a variable name or without `=`.
-fn wrong_message(text: &[u8]) -> &'static str {
+fn wrong_message(text: &[u8]) -> &'static str
+    ensures { result.now ≡ dotenv.wrong_message text.now }
+{
     let (line, _) = first_line(text);
-    if line.contains(&b'=') {
-        MISSPELLED
-    } else {
-        NO_SIGN
-    }
+    message_of(line)
 }
 
 /// Parses a line that sets `name`, from the text after the `=`.

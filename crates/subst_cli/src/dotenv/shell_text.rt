@@ -131,7 +131,8 @@ fn pair_text(quote: Quote, first: u8, second: u8) -> Option<&'static [u8]>
     }
 }
 
-/// Returns the shell-style text of a backslash and a byte, or `None` if they aren't an escape.
+/// Expands an escape, a backslash and this byte, to text in a shell's syntax. Returns `None` if the two
+/// aren't an escape.
 fn escape(quote: Quote, byte: u8) -> Option<&'static [u8]>
     ensures { option_map (λ v. v.now) result ≡ dotenv.escape quote byte }
 {

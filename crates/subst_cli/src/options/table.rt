@@ -56,7 +56,7 @@ pub(super) static OPTIONS: [Row; 29] = [
         long: "set-file",
         short: None,
         takes: Some(("NAME=FILE", ArgAction::Append)),
-        help: "Set NAME to the contents of FILE, without its last line end",
+        help: "Set NAME to the contents of FILE, without a final newline",
         conflicts: &[],
     },
     Row {
@@ -216,7 +216,7 @@ pub(super) static OPTIONS: [Row; 29] = [
         long: "strict",
         short: None,
         takes: None,
-        help: "With --shell, report unset variables; with --check, report defaults in another option's form",
+        help: "With --shell, report unset variables; with --check, report defaults written as ${NAME:-x}",
         conflicts: &[],
     },
     Row {
@@ -224,7 +224,7 @@ pub(super) static OPTIONS: [Row; 29] = [
         long: "optional",
         short: None,
         takes: None,
-        help: "Expand unset variables to nothing, with --envsubst, --shell, --only or --known",
+        help: "With --envsubst, --shell, --only or --known, expand unset variables to nothing",
         conflicts: &[],
     },
     Row {

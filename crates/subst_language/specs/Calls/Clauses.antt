@@ -2,8 +2,8 @@
 -- describe a map: `items`, `see` and `look_up`. `items v` is the bytes of a value v. `see v` is v as
 -- contracts see it: for a reference, the value that it points to. `look_up name` is `see` of the value under
 -- `name`, or `None`. `fault_of e` is the fault that an error e states.
-use Rattle.std.specs.Prelude.{◌≡◌, ◌≤◌, ◌<◌, ◌+◌, ℕ, List, length, map, Option, Some, Result, Vec, IfErr, IfNone, IfOk, IfSome}
-use Rattle.std.specs.List.{All, Contains}
+use Rattle.std.specs.Prelude.{◌≡◌, ◌≤◌, ◌<◌, ◌+◌, ℕ, List, ◌∷◌, ◌++◌, length, map, Option, Some, Result, Vec, IfErr, IfNone, IfOk, IfSome}
+use Rattle.std.specs.List.{All}
 use Rattle.std.specs.declared.ops.Range.{Range}
 use Rattle.subst_error.specs.Fault.{Fault}
 use Rattle.subst_error.specs.ErrorFault.{expand_into_fault, parse_fault}
@@ -13,7 +13,8 @@ use Rattle.subst_error.specs.declared.borrowed.ExpandIntoError.{ExpandIntoError}
 use Rattle.subst_error.specs.declared.borrowed.SubstituteIntoError.{SubstituteIntoError}
 use Rattle.subst_language.specs.Language.Answer.{Answer, Answers, Gives, Refuses, IsMissing}
 use Rattle.subst_language.specs.Language.BadItem.{HasFault}
-use Rattle.subst_language.specs.Language.Bytes.{colon}
+use Rattle.subst_language.specs.Language.Bytes.{dollar, opening_brace, colon}
+use Rattle.subst_language.specs.Language.Name.{IsName}
 use Rattle.subst_language.specs.Language.Sentence.{ByTree, IsSentence}
 use Rattle.subst_language.specs.Language.Value as tree
 use Rattle.subst_language.specs.Language.Variables.{all_missing, variables_of}
@@ -46,9 +47,14 @@ abbrev pub OverflowsParsed : {T : Type 0} → (capacity len : ℕ) → Result T 
 OverflowsParsed capacity len result x =
     IfRefused result (λ e. Unit {0}) (λ e. IfNone (expand_into_fault e) (capacity < len + length x))
 
--- if the parse runs out of memory, the source s has a colon, as each placeholder with a default does
+-- somewhere in the source s, a name and a colon follow `${`, as in each placeholder with a default
+abbrev pub ContainsDefault : List ℕ → Type 0
+ContainsDefault s = (before : List ℕ) × (name : List ℕ) × (after : List ℕ) × IsName name
+    × (s ≡ before ++ (dollar ∷ opening_brace ∷ name ++ colon ∷ after))
+
+-- if the parse runs out of memory, the source s has the beginning of a default
 abbrev pub NeedsMemory : {T : Type 0} → List ℕ → Result T SubstituteIntoError → Type 0
-NeedsMemory s result = IfRefused result (λ e. IfNone (parse_fault e) (Contains s colon)) (λ e. Unit {0})
+NeedsMemory s result = IfRefused result (λ e. IfNone (parse_fault e) (ContainsDefault s)) (λ e. Unit {0})
 
 -- If the result is an error that states a fault, that fault is the first missing variable of the source s.
 -- This depends on which names the map has a value for, and not on the values.
@@ -97,12 +103,17 @@ EachEndsWithin s range list = All (λ it. (range it).end ≤ length s) list
 abbrev pub EachIsRangedIn : {A : Type 0} → List ℕ → (A → Range ℕ) → List A → Type 0
 EachIsRangedIn s range list = All (λ it. IsRangeIn s (range it)) list
 
--- The text s has this answer under a map. If the answer is bytes x, then s is a sentence. Its output is x,
--- provided that contracts can state the bytes of the map's values. If the answer is the refusal for f, then s
--- is refused for f, whatever values the map's names have. The range of f is then in s.
+-- whatever values the map's names have, the source s has an output: it is a sentence, and no variable is
+-- missing
+abbrev pub HasOutput : {Seen : Type 0} → (List ℕ → Option Seen) → List ℕ → Type 0
+HasOutput look_up s = ByNames look_up (λ look. (x : List ℕ) × Answers s look (Gives x))
+
+-- The text s has this answer under a map. If the answer is bytes x, then s has an output. It is x, provided
+-- that contracts can state the bytes of the map's values. If the answer is the refusal for f, then s is
+-- refused for f, whatever values the map's names have. The range of f is then in s.
 abbrev pub AnswersText : {Value Seen : Type 0} → (Value → List ℕ) → (Value → Seen)
     → (List ℕ → Option Seen) → List ℕ → Answer → Type 0
 AnswersText items see look_up s (Gives x) =
-    IsSentence s × ByLookUp items see look_up (λ look. Answers s look (Gives x))
+    HasOutput look_up s × ByLookUp items see look_up (λ look. Answers s look (Gives x))
 AnswersText items see look_up s (Refuses f) =
     ByNames look_up (λ look. Answers s look (Refuses f)) × IsRangeIn s (range_of (Some f))

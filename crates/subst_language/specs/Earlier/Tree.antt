@@ -1,4 +1,5 @@
--- Syntax trees of the earlier language, and the text of each. In EBNF, where braces in a `default` match:
+-- Syntax trees of the earlier language, and the text of each. This is the grammar in EBNF; the literal braces
+-- within a `default` must also be balanced:
 --   template = { item } ;
 --   item     = plain | "\" special | "$" name | "${" name "}" | "${" name ":" default "}" ;
 --   default  = template ;

@@ -25,3 +25,9 @@ returns-in_err-from_str-clause-range g c =
     let gone = c.from_residual in
     let (e, is, gives) = err_from_is_err_and gone.result gone.ensures.1 in
     rw (is, gives) (no_range c.args.source.now c.utf8.source)
+
+pub returns-then-plain-source-clause-complete : goal.returns-then-plain-source-clause-complete
+returns-then-plain-source-clause-complete g c look names =
+    let plain = all_plain c.as_bytes.ensures.value c.plain_len-plain.ensures.whole c.if-plain-source.true
+    refl (ap length c.as_bytes.ensures.value) in
+    (_, plain_answer c.args.source.now look plain)

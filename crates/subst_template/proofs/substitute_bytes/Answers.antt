@@ -15,3 +15,8 @@ returns-then-plain-source-clause-sentence g c =
     let (t, spells, gives) = plain_answer c.args.source.now (λ name. None)
     (c.plain_len-plain.ensures.whole.0 c.if-plain-source.true) in
     (t, spells)
+
+pub returns-then-plain-source-clause-complete : goal.returns-then-plain-source-clause-complete
+returns-then-plain-source-clause-complete g c look names =
+    let plain = c.plain_len-plain.ensures.whole.0 c.if-plain-source.true in
+    (_, plain_answer c.args.source.now look plain)

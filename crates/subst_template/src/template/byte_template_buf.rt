@@ -133,7 +133,7 @@ impl ByteTemplateBuf {
     }
 
     /// Expands the template with the values of `variables`, and appends the bytes to `output`, as
-    /// [`ByteTemplate::expand_into`].
+    /// [`ByteTemplate::expand_into`] does.
     ///
     /// # Errors
     ///
@@ -163,7 +163,7 @@ impl ByteTemplateBuf {
         self.as_template().expand_into(output, variables)
     }
 
-    /// Returns the variables of the source, as [`ByteTemplate::variables`].
+    /// Returns the variables of the source, as [`ByteTemplate::variables`] does.
     ///
     /// # Errors
     ///
@@ -176,7 +176,7 @@ impl ByteTemplateBuf {
         self.as_template().variables(alloc)
     }
 
-    /// Returns the missing variables, as [`ByteTemplate::missing`].
+    /// Returns the missing variables, as [`ByteTemplate::missing`] does.
     ///
     /// # Errors
     ///
@@ -209,7 +209,7 @@ impl Clone for ByteTemplateBuf {
     }
 }
 
-/// Borrows the template, as [`ByteTemplateBuf::as_template`].
+/// Borrows the template, as [`ByteTemplateBuf::as_template`] does.
 impl<'a> From<&'a ByteTemplateBuf> for ByteTemplate<'a> {
     ghost use Rattle.std.specs.Prelude.{◌≡◌};
 

@@ -142,7 +142,7 @@ impl TemplateBuf {
     }
 
     /// Expands the template with the values of `variables`, which are texts, and appends the result to
-    /// `output`, as [`Template::expand_into`].
+    /// `output`, as [`Template::expand_into`] does.
     ///
     /// # Errors
     ///
@@ -172,7 +172,7 @@ impl TemplateBuf {
         self.as_template().expand_into(output, variables)
     }
 
-    /// Returns the variables of the source, as [`Template::variables`].
+    /// Returns the variables of the source, as [`Template::variables`] does.
     ///
     /// # Errors
     ///
@@ -185,7 +185,7 @@ impl TemplateBuf {
         self.as_template().variables(alloc)
     }
 
-    /// Returns the missing variables, as [`Template::missing`].
+    /// Returns the missing variables, as [`Template::missing`] does.
     ///
     /// # Errors
     ///
@@ -218,7 +218,7 @@ impl Clone for TemplateBuf {
     }
 }
 
-/// Borrows the template, as [`TemplateBuf::as_template`].
+/// Borrows the template, as [`TemplateBuf::as_template`] does.
 impl<'a> From<&'a TemplateBuf> for Template<'a> {
     ghost use Rattle.std.specs.Prelude.{◌≡◌};
 

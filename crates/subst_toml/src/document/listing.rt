@@ -69,7 +69,7 @@ where
     refusals_by(alloc, source, &Filler { variables })
 }
 
-/// Lists the strings that `filler` refuses in a TOML document, as [`refusals_in`].
+/// Lists the strings that `filler` refuses in a TOML document, as [`refusals_in`] does.
 ///
 /// # Errors
 ///

@@ -15,9 +15,9 @@ use toml_parser::{ErrorKind, ParseError, dotted_key, quoted, starts_string, unqu
 /// An open bracket.
 #[derive(Clone, Copy)]
 enum Bracket {
-    /// The bracket of an array.
+    /// The opening bracket of an array.
     Array,
-    /// The brace of an inline table.
+    /// The opening brace of an inline table.
     InlineTable,
 }
 

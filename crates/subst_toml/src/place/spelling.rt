@@ -109,7 +109,7 @@ fn first_piece(text: &str, style: Style) -> Option<Piece<'_>>
     }
 }
 
-/// Returns the piece of the escape whose backslash precedes `text`. Returns `None` if `text` is empty or the
+/// Returns a `Piece` for the escape whose backslash precedes `text`. Returns `None` if `text` is empty or the
 /// escape is an invalid hex escape.
 fn escape(text: &str, is_multi_line: bool) -> Option<Piece<'_>>
     ensures within { IfSome result (λ piece. length piece.rest.now ≤ length text.now) }

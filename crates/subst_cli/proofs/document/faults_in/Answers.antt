@@ -1,7 +1,6 @@
--- The fault is that the text is no document or its output isn't confirmed, or it is one of a string in the
--- text.
-use Rattle.std.proofs.Common.{◌≡◌, [], inl, inr, rules}
-use Rattle.subst_cli.proofs.DocumentLemmas.{fault_in_document, unconfirmed, unread_one}
+-- Either the text is no document or its output isn't confirmed, or the faults are those of its strings.
+use Rattle.std.proofs.Common.{◌≡◌, [], inr, rules}
+use Rattle.subst_cli.proofs.DocumentLemmas.{unread_one}
 use Rattle.subst_cli.proofs.document.faults_in.Goals as goal
 
 pub returns-in-Err-Unread : goal.returns-in-Err-Unread
@@ -14,17 +13,19 @@ returns-in-Err-Unread c = λ entries from.
 
 pub returns-in-Err-Refused : goal.returns-in-Err-Refused
 returns-in-Err-Refused c = λ entries from.
-    unconfirmed c.args.format c.args.filler.now.placeholders.now entries
-    c.args.text.now c.not_confirmed.result c.not_confirmed.ensures
+    unread_one c.args.format c.args.filler.now.placeholders.now entries c.args.text.now _ _
+    c.one_fault-in-Err-Refused.result tt c.one_fault-in-Err-Refused.ensures
 
 pub returns-then-is_empty : goal.returns-then-is_empty
 returns-then-is_empty c = λ entries from.
-    unconfirmed c.args.format c.args.filler.now.placeholders.now entries
-    c.args.text.now c.not_confirmed-then-is_empty.result c.not_confirmed-then-is_empty.ensures
+    unread_one c.args.format c.args.filler.now.placeholders.now entries c.args.text.now _ _
+    c.one_fault-then-is_empty.result tt c.one_fault-then-is_empty.ensures
 
 pub returns-else-is_empty : goal.returns-else-is_empty
 returns-else-is_empty c = λ entries from.
-    let some : ¬ (c.in_ok-faults.faults.items ≡ []) = search rules in
-    fault_in_document c.args.format c.args.filler.now.placeholders.now entries c.args.text.now c.in-Ok.strings.items
-    c.in_ok-faults.faults.items (rw c.in-Ok.is at c.in_ok-strings.ensures.strings)
-    (elim c.in_ok-faults.ensures [ inl (none, _) ↦ absurd (some none) | inr one ↦ one entries from ])
+    let some : ¬ (c.in_ok-faults.faults.items ≡ []) = search rules in inr (
+      c.in-Ok.strings.items,
+      rw c.in-Ok.is at c.in_ok-strings.ensures.strings,
+      c.in_ok-faults.ensures entries from,
+      some,
+    )

@@ -1,12 +1,14 @@
--- The strings so far all have outputs, or one of the faults is of one of them.
-use Rattle.std.proofs.Common.{◌≡◌}
-use Rattle.subst_cli.specs.Documents.{format_of, FindsIn}
-use Rattle.subst_cli.proofs.DocumentLemmas.{AreOf}
+-- The faults so far are those of the strings so far.
+use Rattle.std.proofs.Common.{◌≡◌, List}
+use Rattle.subst_cli.specs.Documents.{format_of, AreFaultsOfStrings, FindsIn}
+use Rattle.subst_cli.specs.Layers.{Entry}
+use Rattle.subst_cli.specs.Strings.{FillsFrom}
 use Rattle.subst_cli.proofs.document.faults_of.Given as goal
 
 abbrev pub invariant-loop-path : goal.invariant-loop-path
 invariant-loop-path l = record {
   format : format_of l.finder ≡ l.fn.format;
   finder : FindsIn l.text l.finder;
-  faults : AreOf l.filler l.fn.format l.text l.fn.strings.items l.yielded l.all.items;
+  faults : (entries : List Entry) → FillsFrom l.filler entries
+      → AreFaultsOfStrings l.fn.format l.filler.placeholders.now entries l.text l.yielded l.all.items;
 }

@@ -1,12 +1,12 @@
--- The file isn't UTF-8, or a line is refused.
+-- The file isn't UTF-8, or its lines are read.
 use Rattle.std.proofs.Common.{◌∙◌, inl, inr, rules, subst, sym}
 use Rattle.std.specs.Str.{IsUtf8}
-use Rattle.subst_cli.proofs.FaultLemmas.{any_of_one, any_weaker}
+use Rattle.subst_cli.proofs.ExpansionLemmas.{weaker_faults, weaker_outcome}
+use Rattle.subst_cli.proofs.FaultLemmas.{one_weaker}
 use Rattle.subst_cli.proofs.dotenv.add_file.Goals as goal
-use Rattle.subst_cli.specs.Dotenv.{IsFaultOfFile, Stops}
+use Rattle.subst_cli.specs.Dotenv.{IsFaultOfFile, IsFirstRefusedLine}
 use Rattle.subst_cli.specs.Faults.{IsNoText}
 use Rattle.subst_cli.specs.Layers.{entries_of}
-use Rattle.subst_cli.specs.Mark.{after_mark}
 use Rattle.subst_cli.specs.Run.{bytes_of}
 
 pub returns-then-is_none-clause-refused : goal.returns-then-is_none-clause-refused
@@ -16,15 +16,20 @@ returns-then-is_none-clause-refused c above are =
     let not_here : ¬ (IsUtf8 c.deref.result.now) = search rules in
     let none : ¬ (IsUtf8 c.deref-then-is_none.result.now) =
     subst (λ x. ¬ (IsUtf8 x)) (c.deref.ensures.value ∙ sym c.deref-then-is_none.ensures.value) not_here in
-    any_weaker (IsNoText s) (IsFaultOfFile above before s) (λ it is. inl is) _
+    one_weaker (IsNoText s) (IsFaultOfFile above before s) (λ it is. inl is) _
     (rw c.deref-then-is_none.ensures.value at (c.in_ok-not_utf8.ensures none))
 
-pub returns-in_ok-one_fault-in-Some-clause-refused : goal.returns-in_ok-one_fault-in-Some-clause-refused
-returns-in_ok-one_fault-in-Some-clause-refused c above are =
+pub returns-clause-leaves : goal.returns-clause-leaves
+returns-clause-leaves c above are =
+    let utf8 : IsUtf8 (bytes_of c.args.source.now) = search rules in
+    weaker_outcome c.add_lines.result _ _ (λ it leaves. (utf8, leaves))
+    (rw c.deref-4.ensures.value at (c.add_lines.ensures.leaves above are))
+
+pub returns-clause-refused : goal.returns-clause-refused
+returns-clause-refused c above are =
     let s = bytes_of c.args.source.now in
     let before = entries_of c.args.set.now.entries.items in
-    let stops : Stops above before (after_mark s) c.in-Some.field-0.cause =
-    rw (c.in-Some.is, c.deref-4.ensures.value) at (c.in_ok-add_lines.ensures.stops above are) in
-    rw c.in_ok-one_fault-in-Some.was at (any_of_one (IsFaultOfFile above before s) _ _ c.one_fault.result
-    c.one_fault.ensures
-    (λ it cause range. inr (subst (Stops above before (after_mark s)) (sym cause) stops)))
+    let utf8 : IsUtf8 s = search rules in
+    weaker_faults c.add_lines.result _ _
+    (λ faults. one_weaker (IsFirstRefusedLine above before s) (IsFaultOfFile above before s)
+    (λ it is. inr (utf8, is)) faults.items) (rw c.deref-4.ensures.value at (c.add_lines.ensures.stops above are))

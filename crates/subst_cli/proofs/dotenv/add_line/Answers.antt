@@ -10,7 +10,7 @@ returns-in-Nothing-clause-goes_on c above are =
     let is = sym (rw c.in-Nothing.is at c.in_ok-later.ensures.line) in
     record {
       leaves = λ after leaves. nothing c.in-Nothing.later.now is leaves;
-      stops = λ cause stops. after_nothing c.in-Nothing.later.now is stops;
+      stops = λ rest cause stops. after_nothing c.in-Nothing.later.now is stops;
     }
 
 pub returns-in-Wrong-clause-stops : goal.returns-in-Wrong-clause-stops
@@ -28,8 +28,9 @@ returns-in-Ok-clause-goes_on c above are =
     record {
       leaves = λ after leaves. after_setting_left above before more after c.args.text.now c.in-Sets.name.now
           c.in-Sets.value.items c.in-Sets.later.now value is expands c.in_ok-add-in-Ok.ensures.entries leaves;
-      stops = λ cause stops. after_setting_stopped above before more cause c.args.text.now c.in-Sets.name.now
-          c.in-Sets.value.items c.in-Sets.later.now value is expands c.in_ok-add-in-Ok.ensures.entries stops;
+      stops = λ rest cause stops. after_setting_stopped above before more rest cause c.args.text.now
+          c.in-Sets.name.now c.in-Sets.value.items c.in-Sets.later.now value is expands
+          c.in_ok-add-in-Ok.ensures.entries stops;
     }
 
 pub returns-clause-stops : goal.returns-clause-stops

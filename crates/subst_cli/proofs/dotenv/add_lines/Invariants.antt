@@ -1,5 +1,5 @@
 -- The entries after the lines that are left, or their refusal, are those of all lines.
-use Rattle.std.proofs.Common.{List, length}
+use Rattle.std.proofs.Common.{ℕ, List, length}
 use Rattle.subst_cli.specs.Dotenv.{HasLast, Leaves, Stops}
 use Rattle.subst_cli.specs.Layers.{AreVariablesOf, Entry, entries_of}
 use Rattle.subst_cli.specs.Mark.{after_mark}
@@ -12,9 +12,9 @@ invariant-loop-rest l = record {
   leaves : (above after : List Entry) → AreVariablesOf l.above above
       → Leaves above (entries_of l.set.entries.items) l.rest after
       → Leaves above (entries_of l.fn.set.entries.items) (after_mark l.bytes) after;
-  stops : (above : List Entry) (cause : Cause) → AreVariablesOf l.above above
-      → Stops above (entries_of l.set.entries.items) l.rest cause
-      → Stops above (entries_of l.fn.set.entries.items) (after_mark l.bytes) cause;
+  stops : (above : List Entry) (rest : List ℕ) (cause : Cause) → AreVariablesOf l.above above
+      → Stops above (entries_of l.set.entries.items) l.rest rest cause
+      → Stops above (entries_of l.fn.set.entries.items) (after_mark l.bytes) rest cause;
 }
 
 abbrev pub decreases-loop-rest : goal.decreases-loop-rest

@@ -6,4 +6,4 @@ use Rattle.subst_cli.proofs.fault.one_fault.Goals as goal
 pub returns : goal.returns
 returns c =
     let fault : Fault = record { path = c.new.result; range = c.args.range; cause = c.args.cause } in
-    (fault, rw c.new-faults.ensures.items at c.in_ok-push.ensures.items, refl, refl)
+    (fault, rw c.new-faults.ensures.items at c.in_ok-push.ensures.items, c.new.ensures.bytes, (refl, refl))

@@ -1,17 +1,15 @@
 -- The forms of the text are those of its style.
-use Rattle.subst_cli.specs.Faults.{IsForm, IsFormIn}
 use Rattle.subst_cli.specs.Fill.{grammar_in}
-use Rattle.subst_cli.proofs.FaultLemmas.{any_weaker}
+use Rattle.subst_cli.proofs.PartLemmas.{forms_stated}
 use Rattle.subst_cli.proofs.part.chosen_template.Goals as goal
 
 pub returns-in_ok-refused_forms-in-Err-Refused-clause-refused :
     goal.returns-in_ok-refused_forms-in-Err-Refused-clause-refused
 returns-in_ok-refused_forms-in-Err-Refused-clause-refused c =
-    let first = c.in-Err-Refused.first in
-    let refusal = rw (
-      c.style_of-style.ensures.forms,
-      c.style_of-style.ensures.names,
-      c.in-Err-Refused.field-0-is,
-    ) at c.in-Err-Refused.ensures.refused in
-    any_weaker (IsForm first) (IsFormIn (grammar_in c.args.chosen.now c.args.variables) c.args.source.now)
-    (λ it is. (first, refusal, is)) _ c.in_ok-refused_forms-in-Err-Refused.ensures
+    let style = c.style_of-style.ensures in
+    forms_stated (grammar_in c.args.chosen.now c.args.variables) c.args.source.now c.in-Err-Refused.field-0-0
+    c.in_ok-forms-in-Err-Refused.forms.items _
+    (rw (style.forms, style.names) at (c.one_reading.ensures.one_list c.args.source.now))
+    (rw (style.forms, style.names, c.in-Err-Refused.field-0-is) at c.in-Err-Refused.ensures.refused)
+    (rw (style.forms, style.names) at c.in_ok-forms-in-Err-Refused.ensures.refused)
+    c.in_ok-refused_forms-in-Err-Refused.ensures

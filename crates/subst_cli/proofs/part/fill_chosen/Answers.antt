@@ -1,13 +1,12 @@
 -- The source is converted into a template, unless it has a refused form.
 use Rattle.std.proofs.Common.{Some, inl, inr, subst}
 use Rattle.subst.specs.Template.{IsTemplate}
-use Rattle.subst_cli.specs.Faults.{IsFaultBy, IsFaultOf, IsFormIn}
+use Rattle.subst_cli.specs.Faults.{AreForms}
 use Rattle.subst_cli.specs.Fill.{grammar_in}
 use Rattle.subst_cli.specs.MapBack.{counterpart_at, IsMappedAt, IsMappedIn}
-use Rattle.subst_cli.specs.declared.options.Placeholders.TheVariants.{Chosen}
-use Rattle.subst_cli.proofs.FaultLemmas.{any_weaker}
+use Rattle.subst_cli.specs.declared.fault.Fault.{Fault}
 use Rattle.subst_cli.proofs.LayerLemmas.{same_grammar}
-use Rattle.subst_cli.proofs.PartLemmas.{any_mapped}
+use Rattle.subst_cli.proofs.ListLemmas.{none_zipped, zipped_weaker}
 use Rattle.subst_cli.proofs.MapBackLemmas.{mapped_in}
 use Rattle.subst_cli.proofs.part.fill_chosen.Goals as goal
 
@@ -15,12 +14,11 @@ pub returns-in-Err : goal.returns-in-Err
 returns-in-Err c = record {
   gives = λ entries are. tt;
   refused = λ entries are.
-      let source = c.args.source.now in
-      any_weaker (IsFormIn (grammar_in c.args.chosen.now (Some c.args.variables)) source)
-      (IsFaultOf (Chosen c.args.chosen.now) entries source)
-      (λ it is. inl (subst (λ g. IsFormIn g source it)
-      (same_grammar c.args.variables entries c.args.chosen.now are) is)) c.in-Err.faults.items
-      (rw c.in-Err.is at c.in_ok-template.ensures.refused);
+      let (some, forms) = rw c.in-Err.is at c.in_ok-template.ensures.refused in (
+        some,
+        inl (subst (λ g. AreForms g c.args.source.now c.in-Err.faults.items)
+            (same_grammar c.args.variables entries c.args.chosen.now are) forms),
+      );
 }
 
 pub returns-in-Ok-2-clause-gives : goal.returns-in-Ok-2-clause-gives
@@ -38,19 +36,24 @@ returns-clause-refused c = λ entries are.
     let source = c.args.source.now in
     let template = c.in-Ok.template.items in
     let counterparts = c.in_ok-counterparts-in-Err-2.counterparts in
+    let IsMapped : Fault → Fault → Type 0 =
+    λ x it. IsMappedAt chosen.forms (counterpart_at counterparts x.range.start) x it in
     let same = same_grammar c.args.variables entries chosen are in
     let stands = subst (λ g. IsTemplate g chosen.missing source template) same
     (rw c.in-Ok.is at c.in_ok-template.ensures.template) in
-    let mapped = any_mapped (IsFaultBy (Some chosen.forms) entries template)
-    (λ x it. IsMappedAt chosen.forms (counterpart_at counterparts x.range.start) x it) c.in-Err-2.faults.items _
-    c.in_ok-map_all_back-in-Err-2.ensures
-    (rw (c.in-Err-2.is, c.deref.ensures.value) at (c.in_ok-output.ensures.refused entries are)) in
-    let are_in = rw c.deref-in-Err-2.ensures.value at c.in_ok-counterparts-in-Err-2.ensures in
-    any_weaker _ (IsFaultOf (Chosen chosen) entries source) (λ it (x, from, is). inr (
-      template,
-      stands,
-      x,
-      from,
-      subst (λ g. IsMappedIn g source template x it) same
-          (mapped_in (grammar_in chosen (Some c.args.variables)) source template counterparts x it are_in is),
-    )) _ mapped
+    let (some, faults) =
+    rw (c.in-Err-2.is, c.deref.ensures.value) at (c.in_ok-output.ensures.refused entries are) in
+    let mapped = c.in_ok-map_all_back-in-Err-2.ensures in
+    let are_in = rw c.deref-in-Err-2.ensures.value at c.in_ok-counterparts-in-Err-2.ensures in (
+      λ none. some (none_zipped IsMapped _ _ mapped none),
+      inr (
+        template,
+        stands,
+        c.in-Err-2.faults.items,
+        faults,
+        zipped_weaker IsMapped (IsMappedIn _ source template) (λ x it is.
+            subst (λ g. IsMappedIn g source template x it) same
+            (mapped_in (grammar_in chosen (Some c.args.variables)) source template counterparts x it are_in is))
+            _ _ mapped,
+      ),
+    )

@@ -1,7 +1,7 @@
--- The first form is among the faults so far.
-use Rattle.std.specs.List.{Any}
+-- The forms so far have their faults.
+use Rattle.std.specs.List.{AllZip}
 use Rattle.subst_cli.specs.Faults.{IsForm}
 use Rattle.subst_cli.proofs.part.refused_forms.Given as goal
 
 abbrev pub invariant-loop-at : goal.invariant-loop-at
-invariant-loop-at l = Any (IsForm l.fn.first) l.faults.items
+invariant-loop-at l = AllZip IsForm l.yielded l.faults.items

@@ -1,17 +1,24 @@
--- The file isn't UTF-8, or has a wrong line.
+-- The file isn't UTF-8, or its lines are parsed.
 use Rattle.std.proofs.Common.{inl, inr, rules}
+use Rattle.std.proofs.lemmas.Str.{is_utf8-from_IsUtf8}
+use Rattle.std.specs.Str.{IsUtf8}
+use Rattle.subst_cli.proofs.ExpansionLemmas.{weaker_faults}
+use Rattle.subst_cli.proofs.FaultLemmas.{one_weaker}
 use Rattle.subst_cli.specs.Faults.{IsNoText}
-use Rattle.subst_cli.specs.Run.{IsFaultOfLines}
-use Rattle.subst_cli.proofs.FaultLemmas.{any_of_one, any_weaker}
+use Rattle.subst_cli.specs.ValuesFaults.{IsFaultOfLines, IsFirstWrong}
 use Rattle.subst_cli.proofs.values_file.entries_or_faults.Goals as goal
 
 pub returns-then-is_none-clause-refused : goal.returns-then-is_none-clause-refused
 returns-then-is_none-clause-refused c =
     let s = c.args.bytes.now in
-    any_weaker (IsNoText s) (IsFaultOfLines s) (λ it is. inl is) _ (c.in_ok-not_utf8.ensures (search rules))
+    one_weaker (IsNoText s) (IsFaultOfLines s) (λ it is. inl is) _ (c.in_ok-not_utf8.ensures (search rules))
 
-pub returns-in_ok-one_fault-in-Err-clause-refused : goal.returns-in_ok-one_fault-in-Err-clause-refused
-returns-in_ok-one_fault-in-Err-clause-refused c =
-    let wrong = rw c.in-Err.is at c.in_ok-entries.ensures in
-    rw c.in_ok-one_fault-in-Err.was at (any_of_one (IsFaultOfLines c.args.bytes.now) _ _ c.one_fault.result
-    c.one_fault.ensures (λ it _ _. inr wrong))
+pub returns-clause-gives : goal.returns-clause-gives
+returns-clause-gives c = rw (is_utf8-from_IsUtf8 c.args.bytes.now (search rules)) c.entries.ensures.gives
+
+pub returns-clause-refused : goal.returns-clause-refused
+returns-clause-refused c =
+    let s = c.args.bytes.now in
+    let utf8 : IsUtf8 s = search rules in
+    weaker_faults c.entries.result _ _ (λ faults. one_weaker (IsFirstWrong s) (IsFaultOfLines s)
+    (λ it is. inr (utf8, is)) faults.items) c.entries.ensures.refused

@@ -1,11 +1,12 @@
--- The files so far are done.
-use Rattle.std.proofs.Common.{◌≡◌, Some}
+-- The files so far have entries, unless some of them are refused.
+use Rattle.std.proofs.Common.{◌≡◌, [], Some}
 use Rattle.subst_cli.specs.Layers.{entries_of}
-use Rattle.subst_cli.specs.Run.{IsRefusedFile}
+use Rattle.subst_cli.specs.ValuesFaults.{AreRefused}
 use Rattle.subst_cli.specs.ValuesFile.{values_of_files}
-use Rattle.subst_cli.proofs.SourceLemmas.{AreDone}
 use Rattle.subst_cli.proofs.values_file.lines_of.Given as goal
 
 abbrev pub invariant-loop-file : goal.invariant-loop-file
-invariant-loop-file l =
-    AreDone IsRefusedFile (values_of_files l.yielded ≡ Some (entries_of l.all.items)) l.yielded l.refused.items
+invariant-loop-file l = record {
+  read : l.refused.items ≡ [] → values_of_files l.yielded ≡ Some (entries_of l.all.items);
+  refused : AreRefused l.yielded l.refused.items;
+}

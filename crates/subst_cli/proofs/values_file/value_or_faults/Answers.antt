@@ -1,5 +1,5 @@
--- The value is the text.
-use Rattle.std.proofs.Common.{refl}
+-- The value is the text, or the fault is that the bytes are none.
+use Rattle.std.proofs.Common.{refl, rules}
 use Rattle.std.proofs.lemmas.Str.{is_utf8-from_IsUtf8}
 use Rattle.subst_cli.proofs.values_file.value_or_faults.Goals as goal
 
@@ -12,3 +12,6 @@ returns-clause-gives c =
       c.in_ok-from_str.ensures.ok,
       c.in-Ok.ensures.0,
     ) refl
+
+pub returns-in_default-clause-refused : goal.returns-in_default-clause-refused
+returns-in_default-clause-refused c = c.in_ok-not_utf8.ensures (search rules)

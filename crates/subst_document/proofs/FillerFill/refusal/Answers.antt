@@ -14,7 +14,7 @@ returns-then-is_plain-clause-answer g c =
 
 pub returns-in-Ok-clause-answer : goal.returns-in-Ok-clause-answer
 returns-in-Ok-clause-answer g c =
-    (string_bytes c.in-Ok.field-0, (c.in-Ok.ensures.sentence, c.in-Ok.ensures.answer))
+    (string_bytes c.in-Ok.field-0, (c.in-Ok.ensures.complete, c.in-Ok.ensures.answer))
 
 pub returns-clause-answer : goal.returns-clause-answer
 returns-clause-answer g c =

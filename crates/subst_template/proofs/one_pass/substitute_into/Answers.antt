@@ -1,7 +1,7 @@
 -- The outcome of the expansion is the answer of the source.
 use Rattle.std.proofs.lemmas.Result.{err_from_is_err_and}
 use Rattle.subst_language.proofs.Language.RangeWithinLemmas.{parse_result_within}
-use Rattle.subst_template.proofs.SubstituteLemmas.{answers, refuses, refuses_by_names, short_room, range_within}
+use Rattle.subst_template.proofs.SubstituteLemmas.{answers, completes, refuses, refuses_by_names, short_room, range_within}
 use Rattle.subst_template.proofs.one_pass.substitute_into.Goals as goal
 
 pub returns-in_err-expand_in_one_pass-clause-range : goal.returns-in_err-expand_in_one_pass-clause-range
@@ -43,3 +43,7 @@ returns-in_err-branch-clause-range g c =
 pub returns-clause-answer : goal.returns-clause-answer
 returns-clause-answer g c bytes reads =
     answers _ _ _ _ _ _ _ _ _ _ c.in_ok-branch.was c.in_ok-expand_in_one_pass.ensures.expanded bytes reads
+
+pub returns-clause-complete : goal.returns-clause-complete
+returns-clause-complete g c look names =
+    completes _ _ _ _ _ _ _ _ _ _ c.in_ok-branch.was c.in_ok-expand_in_one_pass.ensures.expanded look names

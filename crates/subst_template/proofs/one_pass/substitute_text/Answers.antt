@@ -19,3 +19,7 @@ returns-in_err-substitute-clause-range g c =
     rw (is, gives) (range_in_text c.args.source.now (g.M.VariableMap.look_up c.args.variables.now) _
     c.utf8.source (λ look names. states_refusal c.args.source.now look _
     (rw (← c.as_bytes-source.ensures.value) (c.in_err-substitute.ensures.refusal look names))))
+
+pub returns-clause-complete : goal.returns-clause-complete
+returns-clause-complete g c look names =
+    rw (← c.as_bytes-source.ensures.value) (c.in_ok-substitute.ensures.complete look names)

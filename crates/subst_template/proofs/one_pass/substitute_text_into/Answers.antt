@@ -24,3 +24,7 @@ returns-clause-range g c =
     ranges_in_text substitute_into_fault c.args.source.now (g.M.VariableMap.look_up c.args.variables.now)
     c.substitute_into-outcome.result c.utf8.source (λ look names.
     rw (← c.as_bytes-source.ensures.value) (c.substitute_into-outcome.ensures.refusal look names))
+
+pub returns-clause-complete : goal.returns-clause-complete
+returns-clause-complete g c =
+    rw (← c.as_bytes-source.ensures.value) c.substitute_into-outcome.ensures.complete

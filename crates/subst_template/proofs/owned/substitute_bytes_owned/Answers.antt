@@ -21,3 +21,12 @@ returns-then-plain-len-clause-sentence g c =
 pub returns-clause-answer : goal.returns-clause-answer
 returns-clause-answer g c = λ bytes reads.
     rw (← c.deref-2.ensures.value) (c.substitute.ensures.answer bytes reads)
+
+pub returns-then-plain-len-clause-complete : goal.returns-then-plain-len-clause-complete
+returns-then-plain-len-clause-complete g c look names =
+    let plain = all_plain c.deref.ensures.value c.plain_len-plain.ensures.whole c.if-plain-len.true
+    c.len.ensures c.deref.ensures.len in
+    (_, plain_answer c.args.source.items look plain)
+
+pub returns-clause-complete : goal.returns-clause-complete
+returns-clause-complete g c = rw (← c.deref-2.ensures.value) c.substitute.ensures.complete

@@ -18,3 +18,12 @@ returns-then-plain-len-clause-sentence g c =
     c.len.ensures c.as_bytes.ensures.len in
     let (t, spells, gives) = plain_answer (string_bytes c.args.source) (λ name. None) plain in
     (t, spells)
+
+pub returns-then-plain-len-clause-complete : goal.returns-then-plain-len-clause-complete
+returns-then-plain-len-clause-complete g c look names =
+    let plain = all_plain c.as_bytes.ensures.value c.plain_len-plain.ensures.whole c.if-plain-len.true
+    c.len.ensures c.as_bytes.ensures.len in
+    (_, plain_answer (string_bytes c.args.source) look plain)
+
+pub returns-clause-complete : goal.returns-clause-complete
+returns-clause-complete g c = rw (← c.as_str.ensures.value) c.substitute_text.ensures.complete

@@ -1,5 +1,5 @@
--- The report is that of the error that the call returned.
-use Rattle.subst_uses.proofs.SettingsLemmas.{filled_in, reported, unread}
+-- The error is the one that the call returned.
+use Rattle.subst_uses.proofs.SettingsLemmas.{filled_in, refused, unread}
 use Rattle.subst_uses.specs.Layers.{answers_of}
 use Rattle.subst_uses.proofs.settings.load_as.Goals as goal
 
@@ -12,6 +12,6 @@ pub returns-in_ok-report-in-Err : goal.returns-in_ok-report-in-Err
 returns-in_ok-report-in-Err g c =
     let ask = answers_of c.args.environment.now c.args.defaults.now in
     let failed = c.in-Err in
-    reported ask c.args.file.now c.args.source.now _ _ _ failed.e c.utf8.source
-    (unread ask c.args.file.now c.args.source.now _) failed.ensures.utf8 failed.ensures.toml
-    failed.ensures.subst failed.ensures.memory c.in_ok-report-in-Err.ensures.report
+    refused ask c.args.file.now c.args.source.now _ _ _ _ failed.error c.utf8.source
+    (unread ask c.args.file.now c.args.source.now _ _) failed.ensures.utf8 failed.ensures.toml
+    failed.ensures.toml failed.ensures.subst failed.ensures.memory c.in_ok-report-in-Err.ensures.report

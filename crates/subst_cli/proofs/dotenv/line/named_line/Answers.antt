@@ -9,8 +9,8 @@ use Rattle.subst_language.proofs.Language.NameLemmas.{name_is_utf8}
 
 pub returns-then-not-is_name-clause-line : goal.returns-then-not-is_name-clause-line
 returns-then-not-is_name-clause-line c =
-    misnamed c.is_name.result c.args.text.now c.split_name.result.0.now c.split_name.ensures.name
-    c.is_name.ensures.name c.if-not-is_name.true
+    rw c.wrong_message.ensures (misnamed c.is_name.result c.args.text.now c.split_name.result.0.now
+    c.split_name.ensures.name c.is_name.ensures.name c.if-not-is_name.true)
 
 pub returns-in_default-clause-line : goal.returns-in_default-clause-line
 returns-in_default-clause-line c =

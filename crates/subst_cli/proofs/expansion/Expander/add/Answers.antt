@@ -1,6 +1,5 @@
 -- The output of the source is appended, or the source is refused.
-use Rattle.std.proofs.Common.{[], inl, inr, refl}
-use Rattle.std.proofs.lemmas.List.Elements.{Contains-push}
+use Rattle.std.proofs.Common.{inl, inr, refl}
 use Rattle.std.proofs.lemmas.Result.{on_ok_weaker}
 use Rattle.subst_cli.proofs.expansion.Expander.add.Goals as goal
 
@@ -26,9 +25,6 @@ pub returns-in_ok-push-in-Err : goal.returns-in_ok-push-in-Err
 returns-in_ok-push-in-Err c = λ entries are.
     inr (
       record { source = c.args.source; faults = c.in-Err.faults },
-      (
-        Contains-push [] c.args.source,
-        rw c.in-Err.is at (c.in_ok-output.ensures.refused entries are),
-      ),
+      (refl, rw c.in-Err.is at (c.in_ok-output.ensures.refused entries are)),
       c.in_ok-push-in-Err.ensures.items,
     )

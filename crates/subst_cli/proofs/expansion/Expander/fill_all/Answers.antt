@@ -1,7 +1,6 @@
 -- Each source is done after those before it.
 use Rattle.std.proofs.Common.{◌≡◌, [], rules, subst}
-use Rattle.std.specs.List.{All}
-use Rattle.subst_cli.specs.Run.{IsRefusalOf}
+use Rattle.subst_cli.specs.Run.{AreRefusals}
 use Rattle.subst_cli.proofs.ExpansionLemmas.{done_more}
 use Rattle.subst_cli.proofs.ListLemmas.{vec_yielded}
 use Rattle.subst_cli.proofs.expansion.Expander.fill_all.Goals as goal
@@ -23,6 +22,6 @@ returns-else-is_empty-clause-refused c = λ entries are.
     let all = vec_yielded c.args.sources c.into_iter-source-iterator.result l.source-iterator c.next.new.self
     l.yielded c.next.result gives.0 gives.1 l.yielded_by c.next.ensures.steps c.in-None.is in (
       some,
-      subst (λ sources. All (IsRefusalOf expander.formats expander.placeholders.now entries sources)
-          l.refused.items) all (l.invariant entries are).1,
+      subst (λ sources. AreRefusals expander.formats expander.placeholders.now entries sources l.refused.items)
+          all (l.invariant entries are).1,
     )

@@ -1,11 +1,9 @@
 -- The output of bytes or a text is their expansion; that of a document comes after the bytes that are kept.
-use Rattle.std.proofs.Common.{◌≡◌, Any, IfOk, inr, refl, string_bytes}
+use Rattle.std.proofs.Common.{◌≡◌, IfOk, inr, refl, string_bytes}
 use Rattle.std.specs.Prelude.{IfErr}
-use Rattle.subst_cli.specs.Faults.{IsNoText}
 use Rattle.subst_cli.specs.Fill.{IsOutput}
 use Rattle.subst_cli.specs.Mark.{filled_of}
-use Rattle.subst_cli.specs.Run.{IsFaultIn}
-use Rattle.subst_cli.proofs.FaultLemmas.{any_weaker}
+use Rattle.subst_cli.specs.Run.{AreFaultsFor}
 use Rattle.subst_cli.proofs.ExpansionLemmas.{no_text, of_text, weaker_faults, weaker_outcome}
 use Rattle.subst_cli.proofs.expansion.Expander.fill_as.Goals as goal
 
@@ -21,9 +19,7 @@ returns-in-Bytes-clause-refused c = λ entries are. rw c.in-Bytes.is
 pub returns-in_default-text_of-clause-refused : goal.returns-in_default-text_of-clause-refused
 returns-in_default-text_of-clause-refused c = λ entries are.
     let expander = c.args.self.now in
-    any_weaker (IsNoText _) (IsFaultIn c.args.format expander.placeholders.now entries _)
-    (λ it. no_text c.args.format expander.placeholders.now entries _ it c.in_default.not-Bytes)
-    c.in_ok-not_utf8.field-0.items
+    no_text c.args.format expander.placeholders.now entries _ c.in_ok-not_utf8.field-0.items c.in_default.not-Bytes
     (rw c.split_source.ensures.filled at (c.in_ok-not_utf8.ensures c.in_default-text_of.ensures))
 
 pub returns-in_default-format-clause-gives : goal.returns-in_default-format-clause-gives
@@ -45,9 +41,8 @@ returns-in_default-format-clause-refused c = λ entries are.
     let filled = c.fill_bytes-in_default-format.result in
     of_text c.args.format
     (λ form. c.split_source.result.1.now ≡ filled_of form source → IfOk filled (λ outcome.
-    IfErr outcome (λ faults. Any (IsFaultIn form placeholders entries (filled_of form source)) faults.items)))
-    c.in_default.not-Bytes c.in_default-format.not-Document (λ same. weaker_faults filled _ _
-    (λ faults. any_weaker _ _ (λ it. inr) faults.items)
+    IfErr outcome (λ faults. AreFaultsFor form placeholders entries source faults.items)))
+    c.in_default.not-Bytes c.in_default-format.not-Document (λ same. weaker_faults filled _ _ (λ faults. inr)
     (rw same at (c.fill_bytes-in_default-format.ensures.refused entries are))) c.split_source.ensures.filled
 
 pub returns-in_ok-after-in-Ok-clause-gives : goal.returns-in_ok-after-in-Ok-clause-gives
@@ -65,7 +60,7 @@ returns-in_ok-after-in-Ok-clause-gives c = λ entries are. (
 )
 
 pub returns-in-Err-clause-refused : goal.returns-in-Err-clause-refused
-returns-in-Err-clause-refused c = λ entries are. rw c.in-Document.is (any_weaker _ _ (λ it. inr) _
+returns-in-Err-clause-refused c = λ entries are. rw c.in-Document.is (inr
     (rw (
       c.in-Err.is,
       c.in-Some.ensures.0,

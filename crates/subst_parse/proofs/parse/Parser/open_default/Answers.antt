@@ -2,7 +2,7 @@ use Rattle.std.proofs.Common.{ap, arith}
 use Rattle.subst_language.specs.Language.Bytes.{colon}
 use Rattle.std.proofs.lemmas.Result.{err_from_is_err_and}
 use Rattle.subst_parse.specs.declared.parse.Parser.{Parser}
-use Rattle.subst_parse.proofs.ParserLemmas.{open_fits, reading_opened, head_contains, head_inside, stepped}
+use Rattle.subst_parse.proofs.ParserLemmas.{open_fits, reading_opened, contains_default, head_inside, stepped}
 use Rattle.subst_parse.proofs.parse.Parser.open_default.Goals as goal
 
 pub open-requires : goal.open-requires
@@ -64,6 +64,6 @@ returns-in_err-push-clause-answer g c =
       λ first reading.
           let given = c.in_ok-flush_literal.ensures.flushed first reading in
           (_, c.in_ok-part.ensures.taken first given.parts given.held),
-      λ none. head_contains c.args.self.now.tape.source.now c.args.self.now.at c.args.name colon
+      λ none. contains_default c.args.self.now.tape.source.now c.args.self.now.at c.args.name
           c.requires.head,
     )

@@ -15,9 +15,8 @@ returns-in-Ok-clause-answer c = (
 
 pub returns-clause-answer : goal.returns-clause-answer
 returns-clause-answer c = rw c.refused.ensures (λ entries from.
-    let (k, it, below, is, holds) =
-    rw c.in-Err.is at (c.in_ok-output.ensures.refused entries (rw c.in-Some.is at from)) in
-    subst (IsFaulty c.args.self.now.placeholders.now entries) (cc) (it, holds))
+    let are = rw c.in-Err.is at (c.in_ok-output.ensures.refused entries (rw c.in-Some.is at from)) in
+    subst (IsFaulty c.args.self.now.placeholders.now entries) (cc) (c.in-Err.field-0.items, are))
 
 pub returns-clause-range : goal.returns-clause-range
 returns-clause-range c = rw c.refused.ensures (omega arith)

@@ -1,9 +1,10 @@
 -- A string without faults has an output, and any other one has a fault.
-use Rattle.std.proofs.Common.{◌≡◌, ◌==◌, ◌∙◌, [], List, ℕ, arith, inl, inr, refl, rules, sym, true, vec_len}
+use Rattle.std.proofs.Common.{◌≡◌, ◌==◌, ◌∙◌, [], List, ℕ, ap, arith, inl, inr, length, refl, rules, sym, true, vec_len}
 use Rattle.std.proofs.lemmas.Bool.{eqb-true}
 use Rattle.std.proofs.lemmas.List.{nil_from_length}
+use Rattle.std.proofs.lemmas.List.Sorted.{length_permutation}
 use Rattle.std.proofs.lemmas.Str.{IsCharBoundary-start}
-use Rattle.subst_cli.specs.Faults.{IsFaultOf}
+use Rattle.subst_cli.specs.Faults.{IsFaulty}
 use Rattle.subst_cli.specs.Layers.{Entry}
 use Rattle.subst_cli.specs.Strings.{AreFaults, FillsFrom, GivesSome}
 use Rattle.subst_cli.specs.declared.document.filler.StringFiller.{StringFiller}
@@ -15,28 +16,26 @@ use Rattle.subst_cli.proofs.document.filler.StringFillerFill.refusal.Goals as go
 empty : (count len : ℕ) → (count == 0) ≡ true → count ≡ len → len ≡ 0
 empty count len none counted = omega (arith, eqb-true count 0 none)
 
-module _ (filler : StringFiller) (s : List ℕ) (faults : List Fault)
-    (are : AreFaults filler (GivesSome filler s) (λ entries. IsFaultOf filler.placeholders.now entries s) faults)
-  where
-    given : faults ≡ [] → GivesSome filler s
-    given none = elim are [
-      | inl (_, gives) ↦ gives
-      | inr some ↦ (
-        s,
-        (
-          if_none filler.variables _ refl,
-          λ entries from.
-              let (k, it, below, is, holds) = rw none at (some entries from) in absurd (omega arith),
-        ),
-      )
-    ]
+module _ (filler : StringFiller) (s : List ℕ) (faults : List Fault) (are : AreFaults filler s faults) where
+  given : faults ≡ [] → GivesSome filler s
+  given none = elim are [
+    | inl (_, gives) ↦ gives
+    | inr some ↦ (
+      s,
+      (
+        if_none filler.variables _ refl,
+        λ entries from. let (list, (more, _), order) = some entries from in absurd (more (nil_from_length list
+            (sym (length_permutation list faults order) ∙ ap length none))),
+      ),
+    )
+  ]
 
-    faulty : ¬ (faults ≡ []) → (entries : List Entry) → FillsFrom filler entries
-        → (it : Fault) × IsFaultOf filler.placeholders.now entries s it
-    faulty some entries from = elim are [
-      | inl (none, _) ↦ absurd (some none)
-      | inr one ↦ let (k, it, below, is, holds) = one entries from in (it, holds)
-    ]
+  faulty : ¬ (faults ≡ []) → (entries : List Entry) → FillsFrom filler entries
+      → IsFaulty filler.placeholders.now entries s
+  faulty some entries from = elim are [
+    | inl (none, _) ↦ absurd (some none)
+    | inr more ↦ let (list, of, order) = more entries from in (list, of)
+  ]
 
 pub returns-then-is_empty-clause-answer : goal.returns-then-is_empty-clause-answer
 returns-then-is_empty-clause-answer c =
