@@ -49,7 +49,8 @@ LOADER = '''//! The loader of docs/CALLING.md.
 use serde::DeserializeOwned;
 use std::alloc::{AllocError, Global};
 use std::collections::BTreeMap;
-use subst::{Env, Layered, json};
+use subst::json::{Error, from_str, report};
+use subst::{Env, Layered};
 
 '''
 FROM_LOADER = '''
@@ -58,7 +59,7 @@ fn from_loader(alloc: Global, source: &str, environment: &Env) -> Result<String,
     defaults.insert(String::from_str(alloc, "DOMAIN_OF_DB")?, String::from_str(alloc, "example.org")?)?;
     match load_as::<Server>(alloc, "web.json", source, environment, &defaults)? {
         Loaded::Configuration(server) => format!(in alloc; "{}:{}", server.host, server.port),
-        Loaded::Report(report) => Ok(report),
+        Loaded::Refused(_, report) => Ok(report),
     }
 }
 '''
