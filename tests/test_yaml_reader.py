@@ -10,6 +10,7 @@ import collections
 import os
 import pathlib
 import random
+import re
 import resource
 import unittest
 from concurrent.futures import ProcessPoolExecutor
@@ -28,6 +29,8 @@ COUNT = int(os.environ.get('COUNT', 100000))
 # How many documents a run of the program has.
 CHUNK = 2000
 MOST_PRINTED = 10
+# The reason for refusing an anchor or tag.
+PROPERTIES = 'a second anchor or tag, or an anchor or tag at an alias'
 # Reasons for refusing a document that libyaml reads.
 LAXER = (
     'a tab in the indentation',
@@ -187,8 +190,9 @@ def is_same(source, ours, theirs):
 
 def may_be_refused(text, line, reason):
     """Whether a text that libyaml takes may be refused for a reason at a line, or by its directive: these are read
-    before the first document alone."""
-    return reason in LAXER or text.split('\n')[int(line) - 1].startswith('%YAML')
+    before the first document alone. A key that is a collection may also be refused for its anchor."""
+    at = text.split('\n')[int(line) - 1]
+    return reason in LAXER or at.startswith('%YAML') or reason == PROPERTIES and re.search(r'[]}]\s*:', at) is not None
 
 
 def difference(text, lines):

@@ -3,6 +3,7 @@ pub mod DotenvLemmas
 pub mod DotenvLineLemmas
 pub mod EntryLemmas
 pub mod EscapeLemmas
+pub mod ExpandedLemmas
 pub mod ExpansionLemmas
 pub mod FaultLemmas
 pub mod FillLemmas
@@ -14,6 +15,8 @@ pub mod MessageLemmas
 pub mod MistakeLemmas
 pub mod PartLemmas
 pub mod PositionLemmas
+pub mod RunLemmas
 pub mod ValuesFileLemmas
 pub mod WidthLemmas
+pub mod WrittenLemmas
 pub mod YamlLemmas

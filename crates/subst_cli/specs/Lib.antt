@@ -1,7 +1,9 @@
 pub mod Documents
 pub mod Dotenv
 pub mod DotenvLine
+pub mod Expanded
 pub mod Faults
+pub mod Files
 pub mod Fill
 pub mod FormatRule
 pub mod Layers
@@ -18,3 +20,4 @@ pub mod Strings
 pub mod Templates
 pub mod ValuesFaults
 pub mod ValuesFile
+pub mod Written

@@ -1,5 +1,5 @@
 -- The severity of a run, and its exit status.
-use Rattle.std.specs.Prelude.{ℕ, if◌then◌else◌, nat_lt}
+use Rattle.std.specs.Prelude.{◌≡◌, ◌⊎◌, ◌≤◌, ℕ, max, if◌then◌else◌, nat_lt}
 use Rattle.subst_filter_lib.specs.declared.status.TheConstants.{DONE, REFUSED, WRONG_ARGUMENTS, DEVICE_FAILED, OUT_OF_MEMORY}
 use Rattle.subst_cli.specs.declared.report.Severity.{Severity}
 use Rattle.subst_cli.specs.declared.report.Severity.TheVariants.{Nothing, Refusal, Misuse, Failure, Exhaustion}
@@ -15,3 +15,11 @@ status_of Exhaustion = OUT_OF_MEMORY
 -- the higher one of two severities, by their exit statuses
 abbrev pub worse : Severity → Severity → Severity
 worse a b = if nat_lt (status_of a) (status_of b) then b else a
+
+-- the exit status of a run of this severity is `status`, unless memory ran out
+abbrev pub IsStatus : Severity → (status : ℕ) → Type 0
+IsStatus worst status = (OUT_OF_MEMORY ≤ status_of worst) ⊎ (status_of worst ≡ status)
+
+-- the exit status rises to `status` if that is higher, unless memory ran out
+abbrev pub Raises : (old new : Severity) → (status : ℕ) → Type 0
+Raises old new status = IsStatus new (max (status_of old) status)

@@ -1,5 +1,8 @@
 //! Reading files and directories.
 
+ghost use Rattle.std.specs.Prelude.{◌≡◌, IfOk, string_bytes};
+ghost use Rattle.subst_cli.specs.Templates as templates;
+
 use crate::options::STANDARD_INPUT;
 use crate::terminal::printable;
 use std::alloc::{AllocError, Global};
@@ -46,7 +49,10 @@ pub(crate) fn is_directory(rt: &HostRuntime, path: &str) -> bool {
 
 /// Joins a directory's path and a name, which may be a relative path of several parts. If the name is empty,
 /// returns the directory's path.
-pub(crate) fn path_in(alloc: Global, directory: &str, name: &str) -> Result<String, AllocError> {
+pub(crate) fn path_in(alloc: Global, directory: &str, name: &str) -> Result<String, AllocError>
+    ensures { IfOk result
+        (λ path. string_bytes path ≡ templates.path_in directory.now name.now) }
+{
     if name.is_empty() {
         return String::from_str(alloc, directory);
     }

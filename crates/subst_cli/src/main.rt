@@ -5,6 +5,7 @@
 //! greeting; the tests in `tests/` cover all else.
 #![tactic(auto)]
 
+mod disk;
 mod document;
 mod dotenv;
 pub mod entry;
@@ -13,6 +14,7 @@ mod escape;
 mod excerpt;
 pub mod expansion;
 pub mod fault;
+mod files;
 mod fill;
 pub mod format_rule;
 mod hints;
@@ -20,12 +22,17 @@ mod input;
 pub mod layers;
 mod listing;
 mod map_back;
+mod one_output;
 pub mod options;
 mod output;
 mod part;
+mod per_file;
 mod placeholders;
 mod position;
+mod printer;
 pub mod process;
+mod reading;
+mod refusals;
 mod report;
 mod run;
 pub mod source;
@@ -33,6 +40,7 @@ mod templates;
 mod terminal;
 mod text;
 pub mod values_file;
+mod writing;
 
 use process::run;
 use std::process::ExitCode;

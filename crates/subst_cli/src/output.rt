@@ -1,5 +1,7 @@
-//! Writing output: to a stream, or to a file, which is replaced whole or not at all.
+//! Writing output: to a stream, or to a file, which is replaced whole or not at all. A file is first staged:
+//! a new file with the bytes is made beside it. Then the new file is renamed.
 
+use crate::files::AtPath;
 use std::alloc::{AllocError, Global};
 use std::fs::{File, Metadata, OpenOptions, Permissions};
 use std::io::Write;
@@ -37,15 +39,42 @@ pub(crate) fn print(rt: &HostRuntime, bytes: &[u8]) -> io::Result<()> {
     output.flush()
 }
 
-/// Returns the device and inode numbers of the file at a path, or `None` if the file isn't regular. Symbolic
-/// links are followed.
-///
-/// # Errors
-///
-/// If the file's metadata can't be read.
-pub(crate) fn regular_file(rt: &HostRuntime, path: &str) -> io::Result<Option<(u64, u64)>> {
-    let found = fs::metadata(rt, path)?;
-    Ok(found.is_file().then_some((found.dev(), found.ino())))
+/// A new file that is to replace another.
+#[derive(Drop)]
+pub(crate) struct NewFile {
+    /// The path of the new file.
+    new: PathBuf,
+    /// The path of the file that it is to replace.
+    target: PathBuf,
+}
+
+impl NewFile {
+    /// Renames the new file, so that it replaces the other file. If that fails, the new file is removed.
+    ///
+    /// # Errors
+    ///
+    /// If the renaming fails.
+    pub(crate) fn rename(&self, rt: &HostRuntime) -> io::Result<()> {
+        let outcome = fs::rename(rt, self.new.as_path(), self.target.as_path());
+        if outcome.is_err() {
+            self.remove(rt);
+        }
+        outcome
+    }
+
+    /// Removes the new file. If that fails too, only the earlier failure is reported.
+    fn remove(&self, rt: &HostRuntime) {
+        let _ = fs::remove_file(rt, self.new.as_path());
+    }
+}
+
+/// Returns the kind of file at a path. Symbolic links are followed.
+pub(crate) fn kind_of_file(rt: &HostRuntime, path: &str) -> AtPath {
+    match fs::metadata(rt, path) {
+        Ok(found) if found.is_file() => AtPath::Regular((found.dev(), found.ino())),
+        Ok(_) => AtPath::Other,
+        Err(_) => AtPath::Unknown,
+    }
 }
 
 /// Returns the mode of a new file for a template's output, before the umask applies. It is the template's
@@ -58,22 +87,28 @@ pub(crate) fn mode_of_new(rt: &HostRuntime, template: &str) -> u32 {
     }
 }
 
-/// Writes bytes to the open stream that a path leads to, or else to the file at that path. A file is written
-/// by [`replace`].
+/// Writes bytes to the open stream that a path leads to, or else stages them for the file at that path, as
+/// [`stage`] does.
 ///
 /// # Errors
 ///
 /// If writing fails.
-pub(crate) fn write(rt: &HostRuntime, path: &str, mode: u32, bytes: &[u8]) -> io::Result<()> {
+pub(crate) fn write_or_stage(
+    rt: &HostRuntime,
+    path: &str,
+    mode: u32,
+    bytes: &[u8],
+) -> io::Result<Option<NewFile>> {
     if is_same_file(rt, path, "/proc/self/fd/1") {
-        print(rt, bytes)
+        print(rt, bytes)?;
     } else if is_same_file(rt, path, "/proc/self/fd/2") {
-        rt.stderr().write_all(bytes)
+        rt.stderr().write_all(bytes)?;
     } else if path.starts_with("/dev/fd/") || path.starts_with("/proc/") {
-        write_through(rt, path, true, bytes)
+        write_through(rt, path, true, bytes)?;
     } else {
-        replace(rt, path, mode, bytes)
+        return stage(rt, path, mode, bytes);
     }
+    Ok(None)
 }
 
 /// Returns whether two paths lead to the same existing file.
@@ -84,23 +119,31 @@ fn is_same_file(rt: &HostRuntime, one: &str, other: &str) -> bool {
     }
 }
 
-/// Replaces a file's contents by bytes, whole or not at all. A file that doesn't exist is created with
-/// `mode`. If the path leads to something other than a regular file, such as a pipe, the bytes are written to
-/// it directly.
+/// Makes a new file with these bytes, which is to replace the file at a path. If there is no such file, the
+/// new one has the mode `mode`. If the path leads to something other than a regular file, the bytes are
+/// written to it directly, and `None` is returned.
 ///
 /// # Errors
 ///
 /// If writing fails.
-pub(crate) fn replace(rt: &HostRuntime, path: &str, mode: u32, bytes: &[u8]) -> io::Result<()> {
+pub(crate) fn stage(
+    rt: &HostRuntime,
+    path: &str,
+    mode: u32,
+    bytes: &[u8],
+) -> io::Result<Option<NewFile>> {
     match fs::metadata(rt, path) {
         Ok(old) if old.is_file() => {
             let target = fs::canonicalize(rt, path)?;
-            replace_by_new(rt, target.as_path(), Target::There(&old), bytes)
+            Ok(Some(stage_new(rt, target, Target::There(&old), bytes)?))
         }
-        Ok(_) => write_through(rt, path, false, bytes),
+        Ok(_) => {
+            write_through(rt, path, false, bytes)?;
+            Ok(None)
+        }
         Err(e) if e.kind() == io::ErrorKind::NotFound => {
             let target = end_of_links(rt, path)?;
-            replace_by_new(rt, target.as_path(), Target::Missing(mode), bytes)
+            Ok(Some(stage_new(rt, target, Target::Missing(mode), bytes)?))
         }
         Err(e) => Err(e),
     }
@@ -114,7 +157,7 @@ fn write_through(rt: &HostRuntime, path: &str, at_end: bool, bytes: &[u8]) -> io
     file.write_all(bytes)
 }
 
-/// Returns the path at which [`replace`] first tries to create the replacement of the file at `path`.
+/// Returns the path at which [`stage`] first tries to create the replacement of the file at `path`.
 ///
 /// # Errors
 ///
@@ -156,25 +199,24 @@ enum Target<'m> {
     Missing(u32),
 }
 
-/// Writes bytes to a new file in the directory of `path`, and renames the new file to `path`. If either
-/// fails, the new file is removed.
-fn replace_by_new(
+/// Writes bytes to a new file in the directory of `target`. If that fails, the new file is removed.
+fn stage_new(
     rt: &HostRuntime,
-    path: Path<'_>,
-    target: Target<'_>,
+    target: PathBuf,
+    replaced: Target<'_>,
     bytes: &[u8],
-) -> io::Result<()> {
-    let (mode, old) = match target {
+) -> io::Result<NewFile> {
+    let (mode, old) = match replaced {
         Target::There(old) => (PRIVATE_MODE, Some(old)),
         Target::Missing(mode) => (mode, None),
     };
-    let (new, file) = create_beside(rt, path, mode)?;
-    let outcome = finish(file, old, bytes).and_then(|()| fs::rename(rt, new.as_path(), path));
-    if outcome.is_err() {
-        // If the removal fails too, only the first failure is reported.
-        let _ = fs::remove_file(rt, new.as_path());
+    let (new, file) = create_beside(rt, target.as_path(), mode)?;
+    let staged = NewFile { new, target };
+    if let Err(e) = finish(file, old, bytes) {
+        staged.remove(rt);
+        return Err(e);
     }
-    outcome
+    Ok(staged)
 }
 
 /// Creates a file with `mode` in the directory of `path`, under a name that no file has.

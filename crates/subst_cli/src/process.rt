@@ -3,8 +3,10 @@
 ghost use Rattle.std.specs.Prelude.{◌≤◌};
 ghost use Rattle.std.specs.Process.{exit_status};
 
+use crate::disk::Disk;
 use crate::options::Options;
 use crate::output;
+use crate::printer::StandardOutput;
 use crate::report::Report;
 use crate::run::run_options;
 use crate::terminal::printable_lines;
@@ -38,9 +40,20 @@ fn run_arguments(rt: &HostRuntime, report: &mut Report<'_>) -> Result<(), AllocE
         }
     };
     match Options::parse(rt.alloc(), &arguments) {
-        Ok(options) => run_options(rt, &options, report),
+        Ok(options) => run_on_host(rt, &options, report),
         Err(e) => print_message(rt, &e, report),
     }
+}
+
+/// Runs the program with these options, over the file system and standard output.
+fn run_on_host(
+    rt: &HostRuntime,
+    options: &Options<'_>,
+    report: &mut Report<'_>,
+) -> Result<(), AllocError> {
+    let mut files = Disk::new(rt, options.action);
+    let mut printer = StandardOutput::new(rt.stdout());
+    run_options(rt.alloc(), rt, options, &mut files, &mut printer, report)
 }
 
 /// Returns the arguments, the first of which is the program's name.

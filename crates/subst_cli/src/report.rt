@@ -1,7 +1,7 @@
 //! The diagnostics of a run, on standard error, and its exit status.
 
-ghost use Rattle.std.specs.Prelude.{◌≡◌, ◌≤◌, OnOk};
-ghost use Rattle.subst_cli.specs.Status.{status_of, worse};
+ghost use Rattle.std.specs.Prelude.{◌≡◌, ◌==◌, ◌≤◌, OnOk};
+ghost use Rattle.subst_cli.specs.Status.{Raises, status_of, worse};
 
 use crate::hints::UnsetHint;
 use crate::terminal::printable;
@@ -65,8 +65,10 @@ impl<'r> Report<'r> {
     }
 
     /// Returns whether no error has been reported.
-    pub fn is_empty(&self) -> bool {
-        self.worst == Severity::Nothing
+    pub fn is_empty(&self) -> bool
+        ensures { result ≡ (status_of self.now.worst == DONE) }
+    {
+        self.worst.status() == DONE
     }
 
     /// Returns the exit status of the run: the highest of all reported events.
@@ -98,7 +100,7 @@ impl<'r> Report<'r> {
     ///
     /// If allocation fails.
     pub fn failed(&mut self, name: &str, e: &io::Error) -> Result<(), AllocError>
-        ensures { OnOk result (DEVICE_FAILED ≤ status_of self.new.worst) }
+        ensures { OnOk result (Raises self.old.worst self.new.worst DEVICE_FAILED) }
     {
         if e.kind() == io::ErrorKind::OutOfMemory {
             self.out_of_memory(name);

@@ -2,10 +2,10 @@
 
 ghost use Rattle.std.specs.Prelude.{◌≡◌, IfOk, OnOk, string_bytes};
 ghost use Rattle.std.specs.List.{All};
-ghost use Rattle.subst_cli.specs.Templates.{IsTemplateOf};
+ghost use Rattle.subst_cli.specs.Templates.{IsTemplateOf, target_in};
 
-use crate::input::{is_directory, names_in, path_in};
-use crate::options::Action;
+use crate::files::Files;
+use crate::input::path_in;
 use std::alloc::{AllocError, Global};
 use std::io;
 use std::path::Path;
@@ -20,19 +20,16 @@ pub(crate) struct Template {
 }
 
 impl Template {
-    /// Returns the path of the output: in the output directory if the action has one, else the file's own.
+    /// Returns the path of the output in an output directory.
     ///
     /// # Errors
     ///
     /// If allocation fails.
-    pub fn target(&self, alloc: Global, action: Action<'_>) -> Result<String, AllocError>
-        ensures in_place { action.entry ≡ Action.Replace
-            → IfOk result (λ path. string_bytes path ≡ string_bytes self.now.file) }
+    pub fn target(&self, alloc: Global, directory: &str) -> Result<String, AllocError>
+        ensures { IfOk result
+            (λ path. string_bytes path ≡ target_in directory.now self.now) }
     {
-        match action {
-            Action::WriteInto(directory) => path_in(alloc, directory, &self.name),
-            _ => String::from_str(alloc, &self.file),
-        }
+        path_in(alloc, directory, &self.name)
     }
 }
 
@@ -43,12 +40,16 @@ impl Template {
 /// # Errors
 ///
 /// If a directory can't be read, or if allocation fails.
-pub(crate) fn templates(rt: &HostRuntime, path: &str, suffix: &str) -> io::Result<Vec<Template>>
+pub(crate) fn templates<F: Files>(
+    alloc: Global,
+    files: &F,
+    path: &str,
+    suffix: &str,
+) -> io::Result<Vec<Template>>
     ensures { IfOk result (λ found. All (IsTemplateOf path.now suffix.now) found.items) }
 {
-    let alloc = rt.alloc();
     let mut found = Vec::new(alloc);
-    if !is_directory(rt, path) {
+    if !files.is_directory(path) {
         let name = Path::new(path).file_name().unwrap_or(path);
         let template = template_of(alloc, path, name, suffix)?;
         found.push(template)?;
@@ -61,7 +62,15 @@ pub(crate) fn templates(rt: &HostRuntime, path: &str, suffix: &str) -> io::Resul
         let Some(inner) = directories.pop() else {
             break;
         };
-        add_directory(rt, path, &inner, suffix, &mut found, &mut directories)?;
+        add_directory(
+            alloc,
+            files,
+            path,
+            &inner,
+            suffix,
+            &mut found,
+            &mut directories,
+        )?;
     }
     found.sort_unstable_by(|one, other| one.name.as_str().cmp(other.name.as_str()));
     Ok(found)
@@ -69,8 +78,9 @@ pub(crate) fn templates(rt: &HostRuntime, path: &str, suffix: &str) -> io::Resul
 
 /// Adds the templates in a directory to `found`, and the directory's subdirectories to `directories`. The
 /// directory is `inner`, a path relative to `path`.
-fn add_directory(
-    rt: &HostRuntime,
+fn add_directory<F: Files>(
+    alloc: Global,
+    files: &F,
     path: &str,
     inner: &str,
     suffix: &str,
@@ -80,15 +90,14 @@ fn add_directory(
     ensures { OnOk result (All (IsTemplateOf path.now suffix.now) found.old.items
         → All (IsTemplateOf path.now suffix.now) found.new.items) }
 {
-    let alloc = rt.alloc();
     let directory = path_in(alloc, path, inner)?;
-    let Some(names) = names_in(rt, &directory)? else {
+    let Some(names) = files.names_in(&directory)? else {
         return Ok(());
     };
     for name in names {
         let name = path_in(alloc, inner, &name)?;
         let file = path_in(alloc, path, &name)?;
-        if is_directory(rt, &file) {
+        if files.is_directory(&file) {
             directories.push(name)?;
         } else if file.as_bytes().ends_with(suffix.as_bytes()) {
             let template = template_of(alloc, &file, &name, suffix)?;

@@ -70,7 +70,7 @@ fn refusal(e: Error, highlighting: String) -> RunError
 /// # Errors
 ///
 /// [`RunError::Write`] if the output fails. A prefix of the bytes, possibly empty or whole, was then written.
-fn deliver<O: ByteOutput>(output: &mut O, bytes: &[u8]) -> Result<(), RunError>
+pub fn deliver<O: ByteOutput>(output: &mut O, bytes: &[u8]) -> Result<(), RunError>
     ensures ok { OnOk result (Appends (O.written output.old) (O.written output.new) bytes.now) }
     ensures prefix { AppendsPrefix (O.written output.old) (O.written output.new) bytes.now }
     ensures err { IfErr result (IsWriteFault (O.has_failed output.new)) }

@@ -6,7 +6,7 @@ use Rattle.subst_cli.proofs.templates.add_directory.Goals as goal
 use Rattle.subst_cli.proofs.templates.add_directory.Goals.{then-is_directory+in_ok-push, else-is_directory, then-ends_with+in_ok-template+in_ok-push-2, else-ends_with}
 
 pub loop-name-preserved : goal.loop-name-preserved
-loop-name-preserved c = λ before.
+loop-name-preserved g c = λ before.
     let P = IsTemplateOf c.args.path.now c.args.suffix.now in
     let found = c.loop-name.found.items in
     let are = c.loop-name.invariant before in

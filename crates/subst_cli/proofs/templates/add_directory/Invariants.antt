@@ -4,5 +4,5 @@ use Rattle.subst_cli.specs.Templates.{IsTemplateOf}
 use Rattle.subst_cli.proofs.templates.add_directory.Given as goal
 
 abbrev pub invariant-loop-name : goal.invariant-loop-name
-invariant-loop-name l = All (IsTemplateOf l.path l.suffix) l.fn.found.items
+invariant-loop-name g l = All (IsTemplateOf l.path l.suffix) l.fn.found.items
     → All (IsTemplateOf l.path l.suffix) l.found.items

@@ -4,4 +4,4 @@ use Rattle.subst_cli.specs.Templates.{IsTemplateOf}
 use Rattle.subst_cli.proofs.templates.templates.Given as goal
 
 abbrev pub invariant-loop : goal.invariant-loop
-invariant-loop l = All (IsTemplateOf l.path l.suffix) l.found.items
+invariant-loop g l = All (IsTemplateOf l.path l.suffix) l.found.items
