@@ -72,7 +72,7 @@ module _ (start : ℕ) (first : Option (List Event)) where
     )
 
 -- the same bytes are kept
-keeps : (written : Option (List ℕ)) → Keeps written written
+pub keeps : (written : Option (List ℕ)) → Keeps written written
 keeps None = tt
 keeps (Some bytes) = refl
 

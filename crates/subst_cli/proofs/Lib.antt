@@ -17,6 +17,7 @@ pub mod PartLemmas
 pub mod PositionLemmas
 pub mod RunLemmas
 pub mod ValuesFileLemmas
+pub mod WholeRunLemmas
 pub mod WidthLemmas
 pub mod WrittenLemmas
 pub mod YamlLemmas

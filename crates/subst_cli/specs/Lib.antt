@@ -20,4 +20,5 @@ pub mod Strings
 pub mod Templates
 pub mod ValuesFaults
 pub mod ValuesFile
+pub mod WholeRun
 pub mod Written

@@ -3,6 +3,7 @@
 ghost use Rattle.std.specs.Prelude.{◌≡◌, ◌⊎◌, ◌∷◌, [], IfNone, IfOk, IfSome, List, OnErr, string_bytes};
 ghost use Rattle.subst_cli.specs.Files.{GoesOn, IsReadOrNot, Read, Unread};
 ghost use Rattle.subst_cli.specs.Status.{Raises};
+ghost use Rattle.subst_cli.specs.WholeRun.{OnlyReads};
 ghost use Rattle.subst_filter_lib.specs.declared.status.TheConstants.{DEVICE_FAILED, DONE};
 
 use crate::files::Files;
@@ -49,6 +50,7 @@ pub(crate) fn source_to_expand<F: Files>(
 /// # Errors
 ///
 /// If allocation fails.
+#[tactic(auto, using(crate::proofs::WholeRunLemmas::read_one, crate::proofs::WholeRunLemmas::unread_one))]
 pub(crate) fn source<F: Files>(
     alloc: Global,
     file: &str,
@@ -63,6 +65,7 @@ pub(crate) fn source<F: Files>(
         × Raises report.old.worst report.new.worst DEVICE_FAILED)) }
     ensures gave_up { OnErr result
         (IsReadOrNot file.now (F.history files.old) (F.history files.new)) }
+    ensures reads { OnlyReads (F.history files.old) (F.history files.new) }
 {
     match files.read(file) {
         Ok(bytes) => Ok(Some(source_of(alloc, file, bytes)?)),

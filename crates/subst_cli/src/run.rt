@@ -1,5 +1,10 @@
 //! A run: reads variables and sources, expands the sources, and writes the outputs.
 
+ghost use Rattle.std.specs.Prelude.{ℕ, List};
+ghost use Rattle.subst_cli.specs.Expanded.{IsPrinted};
+ghost use Rattle.subst_cli.specs.Run.{entries_for};
+ghost use Rattle.subst_cli.specs.WholeRun.{HandlesTemplates, IsWholeRun, OnlyReads};
+
 use crate::entry::Entry;
 use crate::expansion::{Expander, all_entries, dotenv_entries, uses};
 use crate::files::Files;
@@ -36,8 +41,13 @@ pub(crate) fn run_options<E: Env, F: Files, P: Printer>(
     files: &mut F,
     printer: &mut P,
     report: &mut Report<'_>,
-) -> Result<(), AllocError> {
-    let read = layers(alloc, env, options, files, report)?;
+) -> Result<(), AllocError>
+    ensures whole { IsWholeRun options.now report.new.worst result
+        (F.history files.old) (F.history files.new)
+        (P.written printer.old) (P.written printer.new) }
+{
+    let variables = variable_files(alloc, options, files, report)?;
+    let read = layers(alloc, env, options, variables, report)?;
     if !report.is_empty() {
         return Ok(());
     }
@@ -59,7 +69,10 @@ fn run_per_file<F: Files>(
     read: Layers,
     files: &mut F,
     report: &mut Report<'_>,
-) -> Result<(), AllocError> {
+) -> Result<(), AllocError>
+    ensures { HandlesTemplates options.now (entries_for options.now read) report.new.worst result
+        options.now.action (F.history files.old) (F.history files.new) }
+{
     let entries = all_entries(alloc, options, read)?;
     let variables = Variables::of(alloc, &entries)?;
     let run = Run {
@@ -78,42 +91,78 @@ fn run_per_file<F: Files>(
     }
 }
 
-/// Reads the variables of values files, defaults files, `.env` files and the environment. Reports files that
-/// can't be read or are refused.
-fn layers<E: Env, F: Files>(
+/// The files that variables are read from.
+#[derive(Drop)]
+struct VariableFiles {
+    /// The values files and the files of `--set-file`.
+    values: Vec<ValuesSource>,
+    /// The defaults files.
+    defaults: Vec<ValuesSource>,
+    /// The `.env` files.
+    dotenv: Vec<Source>,
+}
+
+/// Reads the files that the options take variables from. Reports files that can't be read.
+#[tactic(auto, using(crate::proofs::WholeRunLemmas::no_reads))]
+fn variable_files<F: Files>(
     alloc: Global,
-    env: &E,
     options: &Options<'_>,
     files: &mut F,
     report: &mut Report<'_>,
-) -> Result<Layers, AllocError> {
+) -> Result<VariableFiles, AllocError>
+    ensures { OnlyReads (F.history files.old) (F.history files.new) }
+{
     let mut values = values_sources(alloc, options, &options.values_files, files, report)?;
     for (name, file) in &options.named_files {
-        let name = String::from_str(alloc, name)?;
-        add_value(alloc, options, name, file, &mut values, files, report)?;
+        add_named(alloc, options, name, file, &mut values, files, report)?;
     }
     let defaults = values_sources(alloc, options, &options.defaults_files, files, report)?;
-    let lines = entries(alloc, values, report)?;
-    let defaults = entries(alloc, defaults, report)?;
-    let environment = if options.environment {
-        environment::read(alloc, env)?
-    } else {
-        Vec::new(alloc)
-    };
-    let mut dotenv_files = Vec::new(alloc);
-    for file in &options.dotenv_files {
-        if let Some(source) = source(alloc, file, files, report)? {
-            dotenv_files.push(source)?;
+    let dotenv = sources(alloc, &options.dotenv_files, files, report)?;
+    Ok(VariableFiles {
+        values,
+        defaults,
+        dotenv,
+    })
+}
+
+/// Reads files, and reports those that can't be read.
+#[tactic(auto, using(crate::proofs::WholeRunLemmas::no_reads))]
+fn sources<F: Files>(
+    alloc: Global,
+    paths: &[&str],
+    files: &mut F,
+    report: &mut Report<'_>,
+) -> Result<Vec<Source>, AllocError>
+    ensures { OnlyReads (F.history files.old) (F.history files.new) }
+{
+    let mut sources = Vec::new(alloc);
+    for path in paths {
+        if let Some(source) = source(alloc, path, files, report)? {
+            sources.push(source)?;
         }
     }
+    Ok(sources)
+}
+
+/// Returns the variables of these files and of the environment. Reports files that are refused.
+fn layers<E: Env>(
+    alloc: Global,
+    env: &E,
+    options: &Options<'_>,
+    files: VariableFiles,
+    report: &mut Report<'_>,
+) -> Result<Layers, AllocError> {
     let mut read = Layers {
-        lines,
-        environment,
+        lines: entries(alloc, files.values, report)?,
+        environment: Vec::new(alloc),
         dotenv: Vec::new(alloc),
-        defaults,
+        defaults: entries(alloc, files.defaults, report)?,
     };
-    if report.is_empty() && !dotenv_files.is_empty() {
-        read.dotenv = dotenv(alloc, options, &read, dotenv_files, report)?;
+    if options.environment {
+        read.environment = environment::read(alloc, env)?;
+    }
+    if report.is_empty() && !files.dotenv.is_empty() {
+        read.dotenv = dotenv(alloc, options, &read, files.dotenv, report)?;
     }
     Ok(read)
 }
@@ -143,33 +192,64 @@ fn dotenv(
 
 /// Reads values files. For a directory, reads each file in it whose name is a variable name. Reports files
 /// that can't be read.
+#[tactic(auto, using(crate::proofs::WholeRunLemmas::no_reads))]
 fn values_sources<F: Files>(
     alloc: Global,
     options: &Options<'_>,
     paths: &[&str],
     files: &mut F,
     report: &mut Report<'_>,
-) -> Result<Vec<ValuesSource>, AllocError> {
+) -> Result<Vec<ValuesSource>, AllocError>
+    ensures { OnlyReads (F.history files.old) (F.history files.new) }
+{
     let mut sources = Vec::new(alloc);
     for path in paths {
-        match files.names_in(path) {
-            Ok(None) => {
-                if let Some(source) = source(alloc, path, files, report)? {
-                    report.hint(hints::values_hint(alloc, &source)?.as_deref());
-                    sources.push(ValuesSource::Lines(source))?;
-                }
-            }
-            Ok(Some(names)) => {
-                add_directory(alloc, options, path, names, &mut sources, files, report)?;
-            }
-            Err(e) => report.failed(&display_name(alloc, path)?, &e)?,
-        }
+        add_values(alloc, options, path, &mut sources, files, report)?;
     }
     Ok(sources)
 }
 
+/// Reads a values file, or each file in a directory whose name is a variable name. Appends them to `sources`,
+/// or reports why they can't be read.
+#[tactic(auto, using(crate::proofs::WholeRunLemmas::no_reads))]
+fn add_values<F: Files>(
+    alloc: Global,
+    options: &Options<'_>,
+    path: &str,
+    sources: &mut Vec<ValuesSource>,
+    files: &mut F,
+    report: &mut Report<'_>,
+) -> Result<(), AllocError>
+    ensures { OnlyReads (F.history files.old) (F.history files.new) }
+{
+    match files.names_in(path) {
+        Ok(Some(names)) => add_directory(alloc, options, path, names, sources, files, report),
+        Ok(None) => add_lines(alloc, path, sources, files, report),
+        Err(e) => report.failed(&display_name(alloc, path)?, &e),
+    }
+}
+
+/// Reads a values file and appends it to `sources`, or reports why it can't be read.
+#[tactic(auto, using(crate::proofs::WholeRunLemmas::no_reads))]
+fn add_lines<F: Files>(
+    alloc: Global,
+    path: &str,
+    sources: &mut Vec<ValuesSource>,
+    files: &mut F,
+    report: &mut Report<'_>,
+) -> Result<(), AllocError>
+    ensures { OnlyReads (F.history files.old) (F.history files.new) }
+{
+    if let Some(source) = source(alloc, path, files, report)? {
+        report.hint(hints::values_hint(alloc, &source)?.as_deref());
+        sources.push(ValuesSource::Lines(source))?;
+    }
+    Ok(())
+}
+
 /// Reads each file in `directory` whose name is a variable name. Appends it to `sources` as the value of that
 /// variable, or reports why it can't be read.
+#[tactic(auto, using(crate::proofs::WholeRunLemmas::no_reads))]
 fn add_directory<F: Files>(
     alloc: Global,
     options: &Options<'_>,
@@ -178,7 +258,9 @@ fn add_directory<F: Files>(
     sources: &mut Vec<ValuesSource>,
     files: &mut F,
     report: &mut Report<'_>,
-) -> Result<(), AllocError> {
+) -> Result<(), AllocError>
+    ensures { OnlyReads (F.history files.old) (F.history files.new) }
+{
     for name in names {
         let file = path_in(alloc, directory, &name)?;
         if is_name(name.as_bytes()) && !files.is_directory(&file) {
@@ -189,6 +271,7 @@ fn add_directory<F: Files>(
 }
 
 /// Reads `file` and appends it to `sources` as the value of `name`, or reports why `file` can't be read.
+#[tactic(auto, using(crate::proofs::WholeRunLemmas::no_reads))]
 fn add_value<F: Files>(
     alloc: Global,
     options: &Options<'_>,
@@ -197,11 +280,30 @@ fn add_value<F: Files>(
     sources: &mut Vec<ValuesSource>,
     files: &mut F,
     report: &mut Report<'_>,
-) -> Result<(), AllocError> {
+) -> Result<(), AllocError>
+    ensures { OnlyReads (F.history files.old) (F.history files.new) }
+{
     if let Some(source) = source(alloc, file, files, report)? {
         sources.push(ValuesSource::Value(name, options.line_end, source))?;
     }
     Ok(())
+}
+
+/// Reads `file` and appends it to `sources` as the value of `name`, or reports why `file` can't be read.
+#[tactic(auto, using(crate::proofs::WholeRunLemmas::no_reads))]
+fn add_named<F: Files>(
+    alloc: Global,
+    options: &Options<'_>,
+    name: &str,
+    file: &str,
+    sources: &mut Vec<ValuesSource>,
+    files: &mut F,
+    report: &mut Report<'_>,
+) -> Result<(), AllocError>
+    ensures { OnlyReads (F.history files.old) (F.history files.new) }
+{
+    let name = String::from_str(alloc, name)?;
+    add_value(alloc, options, name, file, sources, files, report)
 }
 
 /// Returns the variables of values files, in order. If files are refused, reports them and returns no
@@ -251,15 +353,32 @@ fn list<F: Files, P: Printer>(
     files: &mut F,
     printer: &mut P,
     report: &mut Report<'_>,
-) -> Result<(), AllocError> {
+) -> Result<(), AllocError>
+    ensures reads { OnlyReads (F.history files.old) (F.history files.new) }
+    ensures printed { (text : List ℕ) × (status : ℕ)
+        × IsPrinted text status (P.written printer.old) (P.written printer.new) }
+{
+    let text = listing(alloc, options, files, report)?;
+    print(text.as_bytes(), printer, report)
+}
+
+/// Returns the listing of the variables in all files. Reports files that can't be read or are refused.
+#[tactic(auto, using(crate::proofs::WholeRunLemmas::no_reads))]
+fn listing<F: Files>(
+    alloc: Global,
+    options: &Options<'_>,
+    files: &mut F,
+    report: &mut Report<'_>,
+) -> Result<String, AllocError>
+    ensures { OnlyReads (F.history files.old) (F.history files.new) }
+{
     let mut listing = Listing::new(alloc);
     for Template { file, .. } in all_templates(alloc, options, files, report)? {
         if let Some(source) = source(alloc, &file, files, report)? {
             list_source(alloc, options, source, &mut listing, report)?;
         }
     }
-    let text = listing.text(alloc)?;
-    print(text.as_bytes(), printer, report)
+    listing.text(alloc)
 }
 
 /// Adds the variables of a source to a listing, or reports the source's faults.
