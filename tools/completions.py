@@ -12,7 +12,7 @@ from building import CRATES
 SOURCE = CRATES / 'subst_cli/src/options/table.rt'
 # A row of that table, and the value in it.
 ROW = re.compile(r'^    Row \{\n(.*?)^    \},', re.MULTILINE | re.DOTALL)
-TAKES = re.compile(r'takes: Some\(\("([^"]+)", ArgAction::(\w+)\)\)')
+TAKES = re.compile(r'takes: Some\(\("([^"]+)", Uses::(\w+)\)\)')
 
 
 class Option(NamedTuple):
@@ -35,9 +35,9 @@ def options():
     for row in ROW.findall(SOURCE.read_text(encoding='utf-8')):
         name, text = (re.search(rf'{field}: "([^"]*)"', row)[1] for field in ('long', 'help'))
         letter = ''.join(re.findall(r"short: Some\('(\w)'\)", row))
-        value, action = TAKES.search(row).groups() if TAKES.search(row) else ('', '')
+        value, uses = TAKES.search(row).groups() if TAKES.search(row) else ('', '')
         conflicts = tuple(re.findall(r'"([^"]+)"', re.search(r'conflicts: &\[(.*?)\]', row, re.DOTALL)[1]))
-        found.append(Option(letter, name, value, text, conflicts, action == 'Append'))
+        found.append(Option(letter, name, value, text, conflicts, uses == 'Many'))
     return found + OF_LIBRARY
 
 

@@ -1,3 +1,5 @@
+pub mod ArgumentLemmas
+pub mod CommandLemmas
 pub mod DocumentLemmas
 pub mod DotenvLemmas
 pub mod DotenvLineLemmas
@@ -13,11 +15,13 @@ pub mod ListingLemmas
 pub mod MapBackLemmas
 pub mod MessageLemmas
 pub mod MistakeLemmas
+pub mod ParsedLemmas
 pub mod PartLemmas
 pub mod PositionLemmas
 pub mod RunLemmas
 pub mod ValuesFileLemmas
 pub mod WholeRunLemmas
 pub mod WidthLemmas
+pub mod WorkedExamples
 pub mod WrittenLemmas
 pub mod YamlLemmas

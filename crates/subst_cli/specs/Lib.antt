@@ -1,3 +1,5 @@
+pub mod Arguments
+pub mod CommandLine
 pub mod Documents
 pub mod Dotenv
 pub mod DotenvLine

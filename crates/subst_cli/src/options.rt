@@ -1,6 +1,13 @@
 //! The options of a run, parsed from its arguments.
 
-ghost use Rattle.std.specs.Prelude.{IfOk, ◌<◌, length};
+ghost use Rattle.std.specs.Prelude.{◌≡◌, ◌<◌, ◌++◌, ◌⊎◌, List, IfErr, IfOk, None, OnOk, Some, [], codes, length, map, not, unwrap_or};
+ghost use Rattle.std.specs.List.{All};
+ghost use Rattle.clap.specs.Walk.{texts};
+ghost use Rattle.clap.specs.Words.{app_of, args_of, first_of, found_of, kind_of, rows_of};
+ghost use Rattle.clap.specs.declared.error.kind.ErrorKind.TheVariants.{OutOfMemory};
+ghost use Rattle.subst_cli.specs.Arguments as arguments;
+ghost use Rattle.subst_cli.specs.Arguments.{borrowed_pair, files_or_input, pair_in, text_pair};
+ghost use Rattle.subst_cli.specs.CommandLine.{AreAlone, AreOnce, CommandOption, IsAction, IsFlag, IsOnce, asked_by, escape_name, exclusion_of, exclusion_of_row, exclusions, keeps_line_end, option_of, option_values, rule_of_row, subst_app, with_rules};
 
 pub use crate::document::Format;
 pub use crate::format_rule::FormatRule;
@@ -9,7 +16,7 @@ use clap::{Arg, ArgAction, ArgMatches, Command, Error};
 use std::alloc::{AllocError, Global};
 use subst::foreign::{Forms, Missing, OnlyNames};
 use subst::is_name;
-use table::OPTIONS;
+use table::{OPTIONS, Row};
 
 mod table;
 
@@ -180,12 +187,39 @@ impl<'w> Options<'w> {
     ///
     /// If the arguments are wrong, if they are for the help or the version, or if allocation fails.
     pub fn parse(alloc: Global, arguments: &'w [String]) -> Result<Options<'w>, Error>
+        ensures pairs { IfOk result (λ options. map text_pair options.pairs.items
+            ≡ map pair_in (option_values (codes "set") (asked_by arguments.entry.now))) }
+        ensures named_files { IfOk result (λ options. map borrowed_pair options.named_files.items
+            ≡ map pair_in (option_values (codes "set-file") (asked_by arguments.entry.now))) }
+        ensures values_files { IfOk result (λ options. texts options.values_files.items
+            ≡ option_values (codes "values") (asked_by arguments.entry.now)) }
+        ensures line_end { IfOk result (λ options. IsFlag (asked_by arguments.entry.now)
+            (codes "keep-line-end") (keeps_line_end options.line_end)) }
+        ensures environment { IfOk result (λ options. IsFlag (asked_by arguments.entry.now)
+            (codes "env") options.environment) }
+        ensures dotenv_files { IfOk result (λ options. texts options.dotenv_files.items
+            ≡ option_values (codes "dotenv") (asked_by arguments.entry.now)) }
+        ensures defaults { IfOk result (λ options. map text_pair options.defaults.items
+            ≡ map pair_in (option_values (codes "default") (asked_by arguments.entry.now))) }
+        ensures defaults_files { IfOk result (λ options. texts options.defaults_files.items
+            ≡ option_values (codes "defaults") (asked_by arguments.entry.now)) }
+        ensures no_empty { IfOk result (λ options. IsFlag (asked_by arguments.entry.now)
+            (codes "no-empty") options.no_empty) }
+        ensures escape { IfOk result (λ options. first_of (codes "escape")
+            (asked_by arguments.entry.now) ≡ escape_name options.escape) }
+        ensures hints_unset { IfOk result (λ options. IsFlag (asked_by arguments.entry.now)
+            (codes "optional") (not options.hints_unset)) }
+        ensures action { IfOk result (λ options.
+            IsAction (asked_by arguments.entry.now) options.action) }
+        ensures suffix { IfOk result (λ options. options.suffix.now
+            ≡ unwrap_or (first_of (codes "strip") (asked_by arguments.entry.now)) []) }
+        ensures inputs { IfOk result (λ options. texts options.files.items
+            ≡ files_or_input (option_values (codes "files") (asked_by arguments.entry.now))) }
+        ensures alone { IfOk result (λ options. AreAlone (asked_by arguments.entry.now)) }
+        ensures once { IfOk result (λ options. AreOnce (asked_by arguments.entry.now)) }
         ensures files { IfOk result (λ options. 0 < length options.files.items) }
     {
-        let matches = match command(alloc)?.try_get_matches_from(arguments) {
-            Ok(matches) => matches,
-            Err(e) => return Err(with_tip(alloc, e)),
-        };
+        let matches = matches_in(alloc, arguments)?;
         let files = list(alloc, &matches, "files")?;
         let action = action_of(&matches);
         check_named(alloc, action, &files)?;
@@ -195,16 +229,16 @@ impl<'w> Options<'w> {
             named_files: named_files_of(alloc, &matches)?,
             values_files: list(alloc, &matches, "values")?,
             line_end: line_end_of(&matches),
-            environment: matches.get_flag("env"),
+            environment: has_flag(&matches, "env"),
             dotenv_files: list(alloc, &matches, "dotenv")?,
             defaults: pairs_of(alloc, &matches, "default")?,
             defaults_files: list(alloc, &matches, "defaults")?,
-            no_empty: matches.get_flag("no-empty"),
+            no_empty: has_flag(&matches, "no-empty"),
             escape: escape_of(alloc, &matches)?,
             formats: format_rule_of(alloc, &matches, suffix)?,
             placeholders: placeholders_of(alloc, &matches)?,
-            hints_unset: !matches.get_flag("optional"),
-            refuses_defaults: action == Action::Check && matches.get_flag("strict"),
+            hints_unset: !has_flag(&matches, "optional"),
+            refuses_defaults: action == Action::Check && has_flag(&matches, "strict"),
             action,
             suffix,
             files: or_standard_input(files)?,
@@ -257,10 +291,43 @@ impl<'w> Options<'w> {
     }
 }
 
+/// Parses arguments with `clap`. The first argument is the program's name. Refuses options that can't be used
+/// together, and an option that is given more often than it may be.
+fn matches_in<'w>(alloc: Global, arguments: &'w [String]) -> Result<ArgMatches<'w>, Error>
+    ensures rows { IfOk result (λ m. rows_of (found_of m) ≡ asked_by arguments.entry.now) }
+    ensures alone { IfOk result (λ m. AreAlone (rows_of (found_of m))) }
+    ensures once { IfOk result (λ m. AreOnce (rows_of (found_of m))) }
+{
+    let matches = match command(alloc)?.try_get_matches_from(arguments) {
+        Ok(matches) => matches,
+        Err(e) => return Err(with_tip(alloc, e)),
+    };
+    check_once(alloc, &OPTIONS, &matches)?;
+    Ok(matches)
+}
+
+/// Refuses a repeated option of a table that may be given once.
+fn check_once(alloc: Global, rows: &[Row], matches: &ArgMatches<'_>) -> Result<(), Error>
+    ensures { OnOk result ((options : List CommandOption) → map option_of rows.now ≡ options
+        → All (IsOnce (rows_of (found_of matches.now))) options) }
+{
+    for row in rows {
+        row.check_once(alloc, matches)?;
+    }
+    Ok(())
+}
+
+/// Returns whether a flag is given.
+fn has_flag(matches: &ArgMatches<'_>, id: &str) -> bool
+    ensures { IsFlag (rows_of (found_of matches.now)) id.now result }
+{
+    matches.get_flag(id)
+}
+
 /// Returns the first of these options that is set, or `None` if none is.
 fn first_flag(matches: &ArgMatches<'_>, options: &[&'static str]) -> Option<&'static str> {
     for option in options {
-        if matches.get_flag(option) {
+        if has_flag(matches, option) {
             return Some(option);
         }
     }
@@ -268,17 +335,23 @@ fn first_flag(matches: &ArgMatches<'_>, options: &[&'static str]) -> Option<&'st
 }
 
 /// Returns the values of an option, in the order of the arguments.
-fn list<'w>(alloc: Global, matches: &ArgMatches<'w>, id: &str) -> Result<Vec<&'w str>, AllocError> {
+fn list<'w>(alloc: Global, matches: &ArgMatches<'w>, id: &str) -> Result<Vec<&'w str>, AllocError>
+    ensures { IfOk result (λ values. texts values.items
+        ≡ option_values id.now (rows_of (found_of matches.now))) }
+{
     let mut values = Vec::new(alloc);
-    if let Some(found) = matches.get_strs(id) {
-        values.extend_from_slice(found)?;
-    }
+    let Some(found) = matches.get_strs(id) else {
+        return Ok(values);
+    };
+    values.extend_from_slice(found)?;
     Ok(values)
 }
 
 /// Returns the files, or standard input if there are none.
 fn or_standard_input(mut files: Vec<&str>) -> Result<Vec<&str>, AllocError>
-    ensures { IfOk result (λ files. 0 < length files.items) }
+    ensures some { IfOk result (λ all. 0 < length all.items) }
+    ensures inputs { IfOk result (λ all. texts all.items
+        ≡ files_or_input (texts files.entry.items)) }
 {
     if files.is_empty() {
         files.push(STANDARD_INPUT)?;
@@ -314,23 +387,28 @@ fn is_standard_input(file: &str) -> bool {
 }
 
 /// Returns the variables of an option, in the order of the arguments.
-fn pairs_of(alloc: Global, matches: &ArgMatches<'_>, id: &str) -> Result<Vec<Pair>, Error> {
+fn pairs_of(alloc: Global, matches: &ArgMatches<'_>, id: &str) -> Result<Vec<Pair>, Error>
+    ensures { IfOk result (λ pairs. map text_pair pairs.items
+        ≡ map pair_in (option_values id.now (rows_of (found_of matches.now)))) }
+{
     let mut pairs = Vec::new(alloc);
-    for argument in list(alloc, matches, id)? {
-        let (name, value) = split_pair(alloc, argument, pairs.len().saturating_add(1), id)?;
+    let arguments = list(alloc, matches, id)?;
+    for argument in &arguments {
+        let (name, value) = split_pair(alloc, *argument, pairs.len().saturating_add(1), id)?;
         pairs.push(owned(alloc, name, value)?)?;
     }
     Ok(pairs)
 }
 
 /// Returns the names and files of `--set-file`.
-fn named_files_of<'w>(
-    alloc: Global,
-    matches: &ArgMatches<'w>,
-) -> Result<Vec<NamedFile<'w>>, Error> {
+fn named_files_of<'w>(alloc: Global, matches: &ArgMatches<'w>) -> Result<Vec<NamedFile<'w>>, Error>
+    ensures { IfOk result (λ files. map borrowed_pair files.items
+        ≡ map pair_in (option_values (codes "set-file") (rows_of (found_of matches.now)))) }
+{
     let mut files = Vec::new(alloc);
-    for argument in list(alloc, matches, "set-file")? {
-        files.push(split_pair(alloc, argument, files.len().saturating_add(1), "set-file")?)?;
+    let arguments = list(alloc, matches, "set-file")?;
+    for argument in &arguments {
+        files.push(split_pair(alloc, *argument, files.len().saturating_add(1), "set-file")?)?;
     }
     Ok(files)
 }
@@ -341,7 +419,11 @@ fn split_pair<'w>(
     argument: &'w str,
     number: usize,
     id: &str,
-) -> Result<(&'w str, &'w str), Error> {
+) -> Result<(&'w str, &'w str), Error>
+    ensures pair { IfOk result (λ pair. pair_in argument.now ≡ borrowed_pair pair) }
+    ensures refused { IfErr result (λ e. (kind_of e ≡ OutOfMemory)
+        ⊎ (pair_in argument.now ≡ None)) }
+{
     let Some((name, value)) = argument.split_once('=') else {
         let message = format!(in alloc; "no '=' in argument {number} of --{id}")?;
         return Err(wrong(alloc, &message));
@@ -354,7 +436,9 @@ fn split_pair<'w>(
 }
 
 /// Copies a name and a value into a pair.
-fn owned(alloc: Global, name: &str, value: &str) -> Result<Pair, AllocError> {
+fn owned(alloc: Global, name: &str, value: &str) -> Result<Pair, AllocError>
+    ensures { IfOk result (λ pair. text_pair pair ≡ Some (name.now, value.now)) }
+{
     Ok((
         String::from_str(alloc, name)?,
         String::from_str(alloc, value)?,
@@ -390,8 +474,11 @@ fn format_rule_of<'w>(
 }
 
 /// Returns the treatment of the last line end in a file whose contents are a value.
-fn line_end_of(matches: &ArgMatches<'_>) -> LineEnd {
-    if matches.get_flag("keep-line-end") {
+fn line_end_of(matches: &ArgMatches<'_>) -> LineEnd
+    ensures { IsFlag (rows_of (found_of matches.now)) (codes "keep-line-end")
+        (keeps_line_end result) }
+{
+    if has_flag(matches, "keep-line-end") {
         LineEnd::Kept
     } else {
         LineEnd::Removed
@@ -399,7 +486,10 @@ fn line_end_of(matches: &ArgMatches<'_>) -> LineEnd {
 }
 
 /// Returns the language that values are escaped for.
-fn escape_of(alloc: Global, matches: &ArgMatches<'_>) -> Result<Escape, Error> {
+fn escape_of(alloc: Global, matches: &ArgMatches<'_>) -> Result<Escape, Error>
+    ensures { IfOk result (λ escape. first_of (codes "escape") (rows_of (found_of matches.now))
+        ≡ escape_name escape) }
+{
     match matches.get_str("escape") {
         None => Ok(Escape::Nothing),
         Some("json") => Ok(Escape::Json),
@@ -413,7 +503,10 @@ fn suffix_of<'w>(
     alloc: Global,
     matches: &ArgMatches<'w>,
     action: Action<'_>,
-) -> Result<&'w str, Error> {
+) -> Result<&'w str, Error>
+    ensures { IfOk result (λ suffix. suffix.now
+        ≡ unwrap_or (first_of (codes "strip") (rows_of (found_of matches.now))) []) }
+{
     let Some(suffix) = matches.get_str("strip") else {
         return Ok("");
     };
@@ -449,9 +542,9 @@ fn placeholders_of<'w>(alloc: Global, matches: &ArgMatches<'w>) -> Result<Placeh
 
 /// Returns the forms that the options choose for variables.
 fn forms_of(matches: &ArgMatches<'_>) -> Forms {
-    if matches.get_flag("envsubst") {
+    if has_flag(matches, "envsubst") {
         Forms::Envsubst
-    } else if matches.get_flag("shell") || matches.get_flag("compose") {
+    } else if has_flag(matches, "shell") || has_flag(matches, "compose") {
         Forms::Shell
     } else {
         Forms::Own
@@ -462,7 +555,7 @@ fn forms_of(matches: &ArgMatches<'_>) -> Forms {
 fn choice_of<'w>(alloc: Global, matches: &ArgMatches<'w>) -> Result<Choice<'w>, Error> {
     if matches.contains_id("only") {
         only_names(alloc, matches)
-    } else if matches.get_flag("known") {
+    } else if has_flag(matches, "known") {
         Ok(Choice::Known)
     } else {
         Ok(Choice::All)
@@ -472,8 +565,8 @@ fn choice_of<'w>(alloc: Global, matches: &ArgMatches<'w>) -> Result<Choice<'w>, 
 /// Returns how an unset variable expands. `--optional` or `--strict` decides this, and without either,
 /// `forms` does.
 fn missing_of(alloc: Global, matches: &ArgMatches<'_>, forms: Forms) -> Result<Missing, Error> {
-    let is_strict = matches.get_flag("strict");
-    let is_optional = matches.get_flag("optional");
+    let is_strict = has_flag(matches, "strict");
+    let is_optional = has_flag(matches, "optional");
     if is_strict && is_optional {
         return Err(wrong(alloc, "--strict can't be used with --optional"));
     }
@@ -522,7 +615,9 @@ fn add_names<'w>(
 }
 
 /// Returns the name in `$NAME` or `${NAME}`, and any other text unchanged.
-fn without_dollar(text: &str) -> &str {
+fn without_dollar(text: &str) -> &str
+    ensures { result.now ≡ arguments.without_dollar text.now }
+{
     let Some(name) = text.strip_prefix('$') else {
         return text;
     };
@@ -533,7 +628,9 @@ fn without_dollar(text: &str) -> &str {
 }
 
 /// Returns the action that the options choose.
-fn action_of<'w>(matches: &ArgMatches<'w>) -> Action<'w> {
+fn action_of<'w>(matches: &ArgMatches<'w>) -> Action<'w>
+    ensures { IsAction (rows_of (found_of matches.now)) result }
+{
     if let Some(file) = matches.get_str("output") {
         if STANDARD_OUTPUT.contains(&file) {
             Action::Print
@@ -542,11 +639,11 @@ fn action_of<'w>(matches: &ArgMatches<'w>) -> Action<'w> {
         }
     } else if let Some(directory) = matches.get_str("output-folder") {
         Action::WriteInto(directory)
-    } else if matches.get_flag("in-place") {
+    } else if has_flag(matches, "in-place") {
         Action::Replace
-    } else if matches.get_flag("check") {
+    } else if has_flag(matches, "check") {
         Action::Check
-    } else if matches.get_flag("names") {
+    } else if has_flag(matches, "names") {
         Action::ListNames
     } else {
         Action::Print
@@ -594,18 +691,36 @@ fn error(alloc: Global, message: &str) -> Result<Error, AllocError> {
 }
 
 /// Returns the command of `clap` with all options.
-fn command<'a>(alloc: Global) -> Result<Command<'a>, AllocError> {
-    let mut command = Command::new(alloc, "subst")
+fn command<'a>(alloc: Global) -> Result<Command<'a>, AllocError>
+    ensures app { IfOk result (λ c. app_of c ≡ subst_app) }
+    ensures excludes { IfOk result (λ c. map exclusion_of (args_of c) ≡ exclusions) }
+{
+    let command = Command::new(alloc, "subst")
         .version(subst_version::TEXT)
         .about("Fill in $name, ${name}, ${name:default} and ${name?} in files.")
-        .after_help(AFTER_HELP);
-    for row in &OPTIONS {
+        .after_help(AFTER_HELP)
+        // Each use of a flag overrides those before it.
+        .args_override_self(true);
+    let files = Arg::new(alloc, "files")
+        .value_name("FILE")
+        .help("Files to fill in; standard input if there are none, or for '-'")
+        .action(ArgAction::Append);
+    with_options(alloc, command, &OPTIONS)?.arg(files)
+}
+
+/// Adds the options of a table to a command.
+fn with_options<'a>(
+    alloc: Global,
+    mut command: Command<'a>,
+    rows: &[Row],
+) -> Result<Command<'a>, AllocError>
+    ensures app { IfOk result (λ c. app_of c
+        ≡ with_rules (app_of command.entry) (map rule_of_row rows.now)) }
+    ensures excludes { IfOk result (λ c. map exclusion_of (args_of c)
+        ≡ map exclusion_of (args_of command.entry) ++ map exclusion_of_row rows.now) }
+{
+    for row in rows {
         command = command.arg(row.to_arg(alloc)?)?;
     }
-    command.arg(
-        Arg::new(alloc, "files")
-            .value_name("FILE")
-            .help("Files to fill in; standard input if there are none, or for '-'")
-            .action(ArgAction::Append),
-    )
+    Ok(command)
 }

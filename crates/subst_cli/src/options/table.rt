@@ -1,17 +1,30 @@
 //! The table of the command line's options.
 
-use clap::{Arg, ArgAction};
+ghost use Rattle.std.specs.Prelude.{◌≡◌, IfOk, None, OnOk, false, length, map};
+ghost use Rattle.clap.specs.Words.{found_of, rows_of, rule_of};
+ghost use Rattle.subst_cli.specs.CommandLine.{IsOnce, option_of, rule_of_option, option_values};
+
+use clap::{Arg, ArgAction, ArgMatches, Error};
 use std::alloc::{AllocError, Global};
+
+/// How often an option with a value may be given.
+#[derive(Clone, Copy, PartialEq, Eq)]
+pub(super) enum Uses {
+    /// Once.
+    Once,
+    /// Any number of times.
+    Many,
+}
 
 /// An option of the command line.
 pub(super) struct Row {
     /// The heading in the help.
     heading: &'static str,
-    long: &'static str,
+    pub(super) long: &'static str,
     short: Option<char>,
-    /// The value's name in the help and the option's action in `clap`, or `None` if the option takes no
+    /// The value's name in the help, and how often the option may be given, or `None` if the option takes no
     /// value.
-    takes: Option<(&'static str, ArgAction)>,
+    pub(super) takes: Option<(&'static str, Uses)>,
     help: &'static str,
     /// The options further down in the table that can't be used with this one.
     conflicts: &'static [&'static str],
@@ -19,22 +32,57 @@ pub(super) struct Row {
 
 impl Row {
     /// Converts the option into an argument of `clap`.
-    pub fn to_arg<'a>(&self, alloc: Global) -> Result<Arg<'a>, AllocError> {
+    pub fn to_arg<'a>(&self, alloc: Global) -> Result<Arg<'a>, AllocError>
+        ensures rule { IfOk result (λ arg. rule_of arg ≡ rule_of_option (option_of self.now)) }
+        ensures local { IfOk result (λ arg. arg.global ≡ false) }
+        ensures excludes { IfOk result (λ arg. map (λ id. id.now) arg.conflicts.items
+            ≡ (option_of self.now).excludes) }
+    {
         let arg = Arg::new(alloc, self.long)
             .long(self.long)
             .help(self.help)
-            .help_heading(self.heading);
-        let arg = with_short(arg, self.short).conflicts_with_all(self.conflicts)?;
-        match self.takes {
-            Some((name, action)) => Ok(arg.value_name(name).action(action)),
-            // A flag may be repeated: each use overrides those before it.
-            None => arg.action(ArgAction::SetTrue).overrides_with(self.long),
+            .help_heading(self.heading)
+            .conflicts_with_all(self.conflicts)?;
+        let arg = with_short(arg, self.short);
+        // Values are collected, and each use of a flag overrides those before it.
+        Ok(match self.takes {
+            Some((name, _)) => arg.value_name(name).action(ArgAction::Append),
+            None => arg.action(ArgAction::SetTrue),
+        })
+    }
+
+    /// Refuses the option if it may be given once and is repeated.
+    pub fn check_once(&self, alloc: Global, matches: &ArgMatches<'_>) -> Result<(), Error>
+        ensures { OnOk result (IsOnce (rows_of (found_of matches.now)) (option_of self.now)) }
+    {
+        let Some((value, Uses::Once)) = self.takes else {
+            return Ok(());
+        };
+        if count(matches, self.long) <= 1 {
+            return Ok(());
         }
+        let message = format!(in alloc;
+            "the argument '--{} <{value}>' cannot be used multiple times",
+            self.long
+        )?;
+        Err(super::wrong(alloc, &message))
+    }
+}
+
+/// Returns the number of an option's values.
+fn count(matches: &ArgMatches<'_>, id: &str) -> usize
+    ensures { result ≡ length (option_values id.now (rows_of (found_of matches.now))) }
+{
+    match matches.get_strs(id) {
+        Some(values) => values.len(),
+        None => 0,
     }
 }
 
 /// Adds a short form to an option, or returns the option unchanged if `short` is `None`.
-fn with_short<'a>(arg: Arg<'a>, short: Option<char>) -> Arg<'a> {
+fn with_short<'a>(arg: Arg<'a>, short: Option<char>) -> Arg<'a>
+    ensures { arg.entry.short ≡ None → result ≡ record arg.entry { short = short } }
+{
     match short {
         Some(short) => arg.short(short),
         None => arg,
@@ -47,7 +95,7 @@ pub(super) static OPTIONS: [Row; 29] = [
         heading: "Variables",
         long: "set",
         short: Some('s'),
-        takes: Some(("NAME=VALUE", ArgAction::Append)),
+        takes: Some(("NAME=VALUE", Uses::Many)),
         help: "Set NAME to VALUE; the last one wins",
         conflicts: &[],
     },
@@ -55,7 +103,7 @@ pub(super) static OPTIONS: [Row; 29] = [
         heading: "Variables",
         long: "set-file",
         short: None,
-        takes: Some(("NAME=FILE", ArgAction::Append)),
+        takes: Some(("NAME=FILE", Uses::Many)),
         help: "Set NAME to the contents of FILE, without a final newline",
         conflicts: &[],
     },
@@ -63,7 +111,7 @@ pub(super) static OPTIONS: [Row; 29] = [
         heading: "Variables",
         long: "values",
         short: Some('f'),
-        takes: Some(("FILE", ArgAction::Append)),
+        takes: Some(("FILE", Uses::Many)),
         help: "Read NAME=VALUE lines (as docker run --env-file), or a directory with a file per name",
         conflicts: &[],
     },
@@ -87,7 +135,7 @@ pub(super) static OPTIONS: [Row; 29] = [
         heading: "Variables",
         long: "dotenv",
         short: None,
-        takes: Some(("FILE", ArgAction::Append)),
+        takes: Some(("FILE", Uses::Many)),
         help: "Read a .env file, with quotes, 'export', comments, and variables as with --shell",
         conflicts: &[],
     },
@@ -95,7 +143,7 @@ pub(super) static OPTIONS: [Row; 29] = [
         heading: "Variables",
         long: "default",
         short: None,
-        takes: Some(("NAME=VALUE", ArgAction::Append)),
+        takes: Some(("NAME=VALUE", Uses::Many)),
         help: "Set NAME to VALUE if no option above sets it",
         conflicts: &[],
     },
@@ -103,7 +151,7 @@ pub(super) static OPTIONS: [Row; 29] = [
         heading: "Variables",
         long: "defaults",
         short: None,
-        takes: Some(("FILE", ArgAction::Append)),
+        takes: Some(("FILE", Uses::Many)),
         help: "Read FILE as --values does, for names that no option above sets",
         conflicts: &[],
     },
@@ -119,7 +167,7 @@ pub(super) static OPTIONS: [Row; 29] = [
         heading: "Variables",
         long: "escape",
         short: None,
-        takes: Some(("json|sh", ArgAction::Set)),
+        takes: Some(("json|sh", Uses::Once)),
         help: "Escape values for sh or json; in YAML, json is right only between double quotes (see --yaml)",
         conflicts: &[],
     },
@@ -127,7 +175,7 @@ pub(super) static OPTIONS: [Row; 29] = [
         heading: "Formats",
         long: "format",
         short: None,
-        takes: Some(("json|toml|yaml|text|bytes|auto", ArgAction::Set)),
+        takes: Some(("json|toml|yaml|text|bytes|auto", Uses::Once)),
         help: "Read files in this format; the options below are its short forms",
         conflicts: &["json", "toml", "yaml", "bytes", "auto"],
     },
@@ -175,7 +223,7 @@ pub(super) static OPTIONS: [Row; 29] = [
         heading: "Reading",
         long: "only",
         short: None,
-        takes: Some(("NAMES", ArgAction::Append)),
+        takes: Some(("NAMES", Uses::Many)),
         help: "Expand only these variables (NAME or APP_*); leave all other text as it is",
         conflicts: &["known"],
     },
@@ -231,7 +279,7 @@ pub(super) static OPTIONS: [Row; 29] = [
         heading: "Writing",
         long: "output",
         short: Some('o'),
-        takes: Some(("FILE", ArgAction::Set)),
+        takes: Some(("FILE", Uses::Once)),
         help: "Write the output to FILE, whole or not at all",
         conflicts: &["output-folder", "in-place", "check", "names"],
     },
@@ -239,7 +287,7 @@ pub(super) static OPTIONS: [Row; 29] = [
         heading: "Writing",
         long: "output-folder",
         short: Some('O'),
-        takes: Some(("FOLDER", ArgAction::Set)),
+        takes: Some(("FOLDER", Uses::Once)),
         help: "Write each file's output into FOLDER; directories are read recursively",
         conflicts: &["in-place", "check", "names"],
     },
@@ -247,7 +295,7 @@ pub(super) static OPTIONS: [Row; 29] = [
         heading: "Writing",
         long: "strip",
         short: None,
-        takes: Some(("SUFFIX", ArgAction::Set)),
+        takes: Some(("SUFFIX", Uses::Once)),
         help: "In directories, process only files whose names end in SUFFIX; with -O, remove it from output names",
         conflicts: &["output"],
     },
