@@ -10,13 +10,12 @@ use Rattle.std.specs.Option.{option_map_or}
 use Rattle.std.specs.Prelude.{◌&&◌, ◌||◌, IfSome, find, map}
 use Rattle.std.specs.Str.{bytes_eq}
 use Rattle.clap.proofs.OnLiterals.{clap_on_literals}
-use Rattle.clap.proofs.WalkLemmas.{one_text-rows}
 use Rattle.clap.specs.Built.{IsParsedFrom}
 use Rattle.clap.specs.Facts.{Entry, IsConflictFree, IsParsed, HasNoConflicts, args_of, arg_declares, declares_conflict, explicit_source, has_arg, is_explicit, is_in_conflict, names}
-use Rattle.clap.specs.Matches.{found_of, has_subcommand, one_text}
+use Rattle.clap.specs.Matches.{found_of, has_subcommand}
 use Rattle.clap.specs.Simple.{App, app_of, is_simple, matches_of}
 use Rattle.clap.specs.Takes.{is_given}
-use Rattle.clap.specs.Walk.{Row, Text, first_of, one_of, row_of, rows_of}
+use Rattle.clap.specs.Walk.{Row, Text, first_of, row_of, rows_of}
 use Rattle.clap.specs.declared.builder.arg.Arg.{Arg}
 use Rattle.clap.specs.declared.builder.command.Command.{Command}
 use Rattle.clap.specs.declared.parser.matches.ArgMatches.{ArgMatches}

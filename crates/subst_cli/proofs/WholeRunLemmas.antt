@@ -1,9 +1,8 @@
 -- Lemmas on runs with options.
 use denote.Ref.{Bor}
-use Rattle.std.proofs.Common.{◌≡◌, ◌==◌, ◌∷◌, ℕ, Bool, true, false, List, [], ◌++◌, Option, Some, None, OnOk, Result, arith, inl, inr, refl, sym}
+use Rattle.std.proofs.Common.{◌≡◌, ◌==◌, ◌∷◌, ℕ, Bool, true, false, List, [], ◌++◌, Option, OnOk, Result, arith, inl, inr, refl, sym}
 use Rattle.std.proofs.lemmas.Grind.{common_steps}
 use Rattle.std.proofs.lemmas.List.Elements.{All-append, All-from_recursion}
-use Rattle.std.specs.Io.KnownBytes.{Keeps}
 use Rattle.std.specs.Prelude.{◌⊎◌, IsErr}
 use Rattle.subst_cli.proofs.ExpandedLemmas.{keeps}
 use Rattle.subst_cli.proofs.RunLemmas.{no_success}

@@ -1,10 +1,10 @@
 -- Lemmas on the calls of a run, on its exit status, and on its results for files.
-use Rattle.std.proofs.Common.{◌≡◌, ◌≤◌, ◌∙◌, ◌++◌, ◌∷◌, ℕ, Bool, true, false, List, [], Option, Some, None, ap, append_assoc, append-nil, arith, inl, inr, refl, subst, sym}
+use Rattle.std.proofs.Common.{◌≡◌, ◌≤◌, ◌∙◌, ◌++◌, ◌∷◌, ℕ, Bool, true, false, List, [], Option, Some, None, ap, append_assoc, append-nil, arith, inl, inr, subst, sym}
 use Rattle.std.proofs.lemmas.Grind.{common_steps}
 use Rattle.std.specs.Prelude.{◌⊎◌, IfNone, IfSome, OnSome, max}
 use Rattle.subst_cli.specs.Files.{Event, FileResult, GoesOn, IsFileWritten, IsReadOrNot, Kept, LookedAt, NoMemory, NotCommitted, NotRead, NotStaged, Read, Refused, Staged, Uncommitted, Unstaged, Written, committed, uncommitted, unstaged}
 use Rattle.subst_cli.specs.Layers.{Entry}
-use Rattle.subst_cli.specs.Status.{IsStatus, Raises, status_of, worse}
+use Rattle.subst_cli.specs.Status.{IsStatus, Raises}
 use Rattle.subst_cli.specs.Written.{HasNoOutput, IsChecked, IsDone, IsDoneOnce, IsOutputOf, IsReplaced, IsReplacedOnce, IsUnread, IsWriting, IsWritten, IsWrittenOnce, Refuses}
 use Rattle.subst_cli.specs.declared.files.AtPath.{AtPath}
 use Rattle.subst_cli.specs.declared.format_rule.FormatRule.{FormatRule}

@@ -26,7 +26,7 @@ pub(super) struct Row {
     /// value.
     pub(super) takes: Option<(&'static str, Uses)>,
     help: &'static str,
-    /// The options further down in the table that can't be used with this one.
+    /// Options that can't be used with this one. Those that list this one needn't be listed here.
     conflicts: &'static [&'static str],
 }
 

@@ -1,5 +1,4 @@
 -- The sources were read and expanded, and the outputs were handed on unless something was reported.
-use Rattle.std.proofs.Common.{subst, sym}
 use Rattle.subst_cli.proofs.ExpandedLemmas.{all_refused, all_written, stopped}
 use Rattle.subst_cli.specs.Run.{entries_for}
 use Rattle.subst_cli.proofs.one_output.expand_all.Goals as goal

@@ -1,6 +1,5 @@
 -- The file is written, or one of the two calls failed.
 use Rattle.std.proofs.Common.{arith, inr}
-use Rattle.std.specs.Prelude.{max}
 use Rattle.subst_cli.specs.Files.{committed}
 use Rattle.subst_cli.proofs.WrittenLemmas.{unwritten}
 use Rattle.subst_cli.proofs.writing.write.Goals as goal

@@ -1,11 +1,9 @@
 -- The file was read, and its source is expanded.
-use Rattle.std.proofs.Common.{◌⊎◌, [], inl, inr, sym}
-use Rattle.subst_cli.proofs.WrittenLemmas.{checked, checked_as, raises_then, unread}
-use Rattle.subst_cli.specs.Status.{Raises}
+use Rattle.std.proofs.Common.{[]}
+use Rattle.subst_cli.proofs.WrittenLemmas.{checked, checked_as, unread}
 use Rattle.subst_cli.specs.Written.{IsChecked}
 use Rattle.subst_cli.proofs.per_file.Run.check.Goals as goal
 use Rattle.subst_cli.proofs.per_file.Run.check.Goals.{then-self, else-self}
-use Rattle.subst_filter_lib.specs.declared.status.TheConstants.{DONE, REFUSED}
 
 pub returns-after-self : goal.returns-after-self
 returns-after-self g c = λ entries are.

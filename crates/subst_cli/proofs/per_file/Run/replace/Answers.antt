@@ -1,5 +1,5 @@
 -- The file was read and expanded, and its output was written if it differs from the source.
-use Rattle.std.proofs.Common.{[], arith, subst, sym}
+use Rattle.std.proofs.Common.{arith, subst, sym}
 use Rattle.subst_cli.proofs.WrittenLemmas.{handed_on, no_output, unread}
 use Rattle.subst_cli.specs.Files.{Kept}
 use Rattle.subst_cli.specs.Status.{Raises}

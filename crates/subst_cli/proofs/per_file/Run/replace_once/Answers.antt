@@ -1,5 +1,5 @@
 -- A file that is done isn't read again.
-use Rattle.std.proofs.Common.{◌≡◌, arith, inr, refl, subst, sym}
+use Rattle.std.proofs.Common.{◌≡◌, arith, inr, refl, subst}
 use Rattle.std.specs.Prelude.{MatchBool}
 use Rattle.subst_cli.proofs.WrittenLemmas.{looked_then}
 use Rattle.subst_cli.specs.Files.{DoneBefore, Irregular}

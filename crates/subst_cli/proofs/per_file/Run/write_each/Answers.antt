@@ -1,13 +1,12 @@
 -- Each turn writes the output of one more file.
-use Rattle.std.proofs.Common.{◌∙◌, ◌+◌, Ok, [], true, ap, cond, inr, refl, string_bytes, subst, sym, take}
+use Rattle.std.proofs.Common.{◌∙◌, ◌+◌, Ok, [], true, ap, cond, inr, refl, string_bytes, sym, take}
 use Rattle.std.proofs.lemmas.Map.Text.{hash_set_updates_text}
 use Rattle.std.specs.List.{list_any}
 use Rattle.std.specs.Str.{bytes_eq}
 use Rattle.subst_cli.proofs.RunLemmas.{no_success, one_more, one_written, taken_next, written_run}
 use Rattle.subst_cli.proofs.WrittenLemmas.{no_calls}
-use Rattle.subst_cli.specs.Layers.{AreVariablesOf, Entry}
 use Rattle.subst_cli.specs.Status.{status_of}
-use Rattle.subst_cli.specs.Written.{IsDone, IsWrittenOnce, is_taken, none_written}
+use Rattle.subst_cli.specs.Written.{is_taken, none_written}
 use Rattle.subst_cli.proofs.per_file.Run.write_each.Goals as goal
 
 pub loop-template-init : goal.loop-template-init
