@@ -4,6 +4,7 @@ import base64
 import hashlib
 import os
 import pathlib
+import re
 import subprocess
 import sys
 import tempfile
@@ -11,7 +12,6 @@ import zipfile
 
 TOP = pathlib.Path(__file__).resolve().parent.parent
 LIBRARY = 'libsubst.so.0'
-TAG = 'py3-none-linux_x86_64'
 METADATA = '''Metadata-Version: 2.1
 Name: subst
 Version: {version}
@@ -25,7 +25,7 @@ Description-Content-Type: text/markdown
 `subst.fill_in("Hello $name!", {{"name": "world"}})` fills in `$name`, `${{name}}`, `${{name?}}` and `${{name:default}}`.
 `help(subst)` says more.
 '''
-WHEEL = f'Wheel-Version: 1.0\nGenerator: subst\nRoot-Is-Purelib: false\nTag: {TAG}\n'
+WHEEL = 'Wheel-Version: 1.0\nGenerator: subst\nRoot-Is-Purelib: false\nTag: {tag}\n'
 # The time of all files, which is the first that an archive can have.
 TIME = (1980, 1, 1, 0, 0, 0)
 
@@ -42,6 +42,18 @@ def library():
         return pathlib.Path(prefix, 'lib', LIBRARY).read_bytes()
 
 
+def platform_of(data):
+    """Returns the platform of a library: manylinux with the greatest GLIBC_2.N that it needs, but not below 2.5, which
+    installers don't know. It is linux_x86_64 if the library needs another version of a symbol, or none."""
+    needed = [re.match(rb'2\.(\d+)(?:\.\d+)?$', it) for it in re.findall(rb'(?<=\0)GLIBC_([^\0]+)(?=\0)', data)]
+    return f'manylinux_2_{max(5, *(int(it[1]) for it in needed))}_x86_64' if needed and all(needed) else 'linux_x86_64'
+
+
+def tag_of(found):
+    """Returns the tag of the wheel with these files."""
+    return 'py3-none-' + platform_of(found[f'subst/{LIBRARY}'])
+
+
 def files(version):
     """The files of the wheel, but the list of them, by their paths."""
     package = TOP / 'python/subst'
@@ -49,7 +61,7 @@ def files(version):
     found[f'subst/{LIBRARY}'] = library()
     about = f'subst-{version}.dist-info'
     found[f'{about}/METADATA'] = METADATA.format(version=version).encode()
-    found[f'{about}/WHEEL'] = WHEEL.encode()
+    found[f'{about}/WHEEL'] = WHEEL.format(tag=tag_of(found)).encode()
     found[f'{about}/licenses/LICENSE'] = (TOP / 'LICENSE').read_bytes()
     found[f'{about}/licenses/LICENSES-OF-THE-LIBRARY'] = printed(sys.executable, 'tools/licences', 'subst_c')
     return dict(sorted(found.items()))
@@ -69,7 +81,7 @@ def build_wheel(wheel_directory, config_settings=None, metadata_directory=None):
     version = printed('tools/version').decode().strip()
     found, path = files(version), f'subst-{version}.dist-info/RECORD'
     found[path] = record(found, path)
-    name = f'subst-{version}-{TAG}.whl'
+    name = f'subst-{version}-{tag_of(found)}.whl'
     os.makedirs(wheel_directory, exist_ok=True)
     with zipfile.ZipFile(os.path.join(wheel_directory, name), 'w', zipfile.ZIP_DEFLATED) as archive:
         for file, data in found.items():

@@ -5,6 +5,7 @@ import collections.abc
 import concurrent.futures
 import copy
 import doctest
+import itertools
 import os
 import pathlib
 import pickle
@@ -232,12 +233,26 @@ class Choices(Case):
         error = self.refused(subst.fill_in, b'\xff$b', {}, only=[b'b'])
         self.assertEqual((error.position, error.line, error.highlighting), (2, None, ''))
 
-    def test_only_types(self):
-        for only in ('ab', b'ab', ['a', b'b'], [1]):
-            for call in (subst.fill_in, Template, subst.from_envsubst):
-                with self.assertRaisesRegex(TypeError, 'only must be names, each str as the source is'):
-                    call('', only=only)
-        self.assertRaises(TypeError, subst.fill_in, '', only=1)
+    def test_options_of_wrong_types(self):
+        """The message says what an option must be, and where a variable of its name has to go."""
+        flags = {name: ('a bool', ('z', b'', '', 0, 1, None)) for name in ('optional', 'no_empty', 'known')}
+        only = 'names, each str as the source is', ('ab', b'ab', ['a', b'b'], [1], 1)
+        wrong = {**flags, 'only': only, 'forms': ('one of Forms', ('SHELL', None, 1.5))}
+        documents = subst.fill_in_json, subst.fill_in_toml, subst.fill_in_yaml
+        for calls, names in (((subst.fill_in, Template, subst.fill_in_tree), 'only optional no_empty'),
+                             ((subst.from_envsubst,), 'only optional'), ((subst.missing, *documents), 'no_empty'),
+                             ((subst.fill_in_by_style,), 'only known optional no_empty forms')):
+            for call, name in itertools.product(calls, names.split()):
+                wanted, values = wrong[name]
+                for value in values:
+                    more = {'forms': Forms.OWN, name: value} if call is subst.fill_in_by_style else {name: value}
+                    with self.assertRaisesRegex(TypeError, f'^{name} is an option, which must be {wanted}; pass a '
+                                                           'variable of this name in the mapping$'):
+                        call('', **more)
+        for name in ('optional', 'no_empty'):
+            self.assertRaises(TypeError, subst.fill_in, 'x' * MIB, {}, **{name: ''})
+            self.assertEqual(subst.fill_in(f'x ${name}', {name: 'z'}), 'x z')
+            self.assertEqual(Template(f'x ${name}').fill_in(**{name: 'z'}), 'x z')
 
     def test_optional(self):
         for source, wanted in (('[$a] [${a}] [${a?}] [${a:x$b}] [${c:$d}]', '[] [] [] [x] [v]'), ('$a$a{$a}', '{}'),
@@ -250,6 +265,34 @@ class Choices(Case):
                          [(VariableKind.OPTIONAL, 'a', 2), (VariableKind.WITH_DEFAULT, 'b', 6)])
         self.assertEqual(self.refused(Template, 'é$').position, self.refused(Template, 'é$').position)
         self.assertEqual(subst.fill_in('$a $b', optional=True, only=['a']), ' $b')
+
+    def test_no_empty(self):
+        template = Template(b'${a:x}', no_empty=True)
+        for value in (b'', b'1', bytearray(), memoryview(b''), b'2') * 2:
+            wanted = bytes(value) or b'x'
+            self.assertEqual(template.fill_in({b'a': value}), wanted)
+            self.assertEqual(template.fill_in_each([{b'a': value}, {}]), [wanted, b'x'])
+        empty = {'a': '', 'b': '1'}
+        self.assertEqual(subst.fill_in('${a?}${a:x}$b', empty, no_empty=True), 'x1')
+        self.assertEqual(subst.fill_in('[$a$b]' + ' ' * MIB, empty, no_empty=True, optional=True)[:3], '[1]')
+        self.assertEqual(subst.fill_in('${a:x}', no_empty=True, a=''), 'x')
+        self.assertEqual(subst.fill_in('$b', empty, no_empty=True, b=''), '1')
+        self.assertEqual(subst.fill_in('$a', os.environ, no_empty=True, only=[]), '$a')
+        self.assertEqual(subst.fill_in_tree(['${a:x}$b', {}], empty, no_empty=True), ['x1', {}])
+        self.assertEqual(subst.fill_in_json('["${a:x}"]', empty, no_empty=True), '["x"]')
+        self.assertEqual(subst.fill_in_toml('a = "${a:x}"', empty, no_empty=True), 'a = "x"')
+        self.assertEqual(subst.fill_in_yaml(b'a: ${a:x}', no_empty=True, a=b''), b'a: x')
+        for text, wanted in (('${a-x}${b+y}', 'xy'), ('$a', '$a'), ('${a+y}', '')):
+            found = subst.fill_in_by_style(text, empty, forms=Forms.SHELL, known=True, no_empty=True)
+            self.assertEqual(found, wanted)
+        wanted = [(VariableKind.REQUIRED, 'a', 1)]
+        self.assertEqual(subst.missing('$a$b', empty, no_empty=True), wanted)
+        self.assertEqual(Template('$a$b', no_empty=True).missing(empty), wanted)
+        for call, source in ((subst.fill_in, '$a'), (subst.fill_in_tree, '$a'), (subst.fill_in_json, '"$a"')):
+            self.assertEqual(self.refused(call, source, empty, no_empty=True).name, 'a')
+            with self.assertRaisesRegex(TypeError, "^the value of 'a' must be str as the source is, not "):
+                call(source, {'a': b''}, no_empty=True)
+        self.assertEqual(self.refused(Template('$a', no_empty=True).fill_in_each, [{'a': '1'}, {'a': ''}]).row, 1)
 
     def test_from_envsubst(self):
         text = '$5 ${5} $a ${b_1} ${c:x} $$ \\ é ${'
@@ -275,6 +318,14 @@ class Choices(Case):
                               ('$a' * MIB, '${a?}' * MIB)):
             found = subst.from_shell(given)
             self.assertTrue(found == wanted and type(found) is type(wanted), wanted[:99])
+
+    def test_places_of_a_shell(self):
+        """A missing variable is placed in the template, or by a style in the text."""
+        text = 'é $$ ${a:-x} ${b:?no b}'
+        template = subst.from_shell(text)
+        self.assertEqual(self.refused(subst.fill_in, template, no_empty=True, b='').position, template.index('b}'))
+        for forms in (Forms.SHELL, Forms.COMMON):
+            self.assertEqual(self.refused(subst.fill_in_by_style, text, forms=forms).position, text.index('b:'))
 
     def test_forms_of_a_shell(self):
         texts = ('$1', '${}', '${a-b}', '${a?b}', '${a=b}', '${a+b}', '${a:=b}', '${a:+b}', '${a:1}', '${a#b}',
@@ -340,8 +391,6 @@ class Choices(Case):
         self.assertRaises(ValueError, subst.fill_in_by_style, '', forms=4)
         self.assertRaises(TypeError, subst.fill_in_by_style, '')
         self.assertRaises(TypeError, subst.fill_in_by_style, '', forms=Forms.OWN, only=['a'], known=True)
-        with self.assertRaisesRegex(TypeError, 'only must be names, each str as the source is'):
-            subst.fill_in_by_style('', forms=Forms.OWN, only=[b'a'])
         with self.assertRaisesRegex(TypeError, "the value of 'a' must be str as the source is, not int"):
             subst.fill_in_by_style('$a', {'a': 1}, forms=Forms.OWN)
 
@@ -349,7 +398,8 @@ class Choices(Case):
         same = [Template('$a'), Template('$a', only=None), pickle.loads(pickle.dumps(Template('$a')))]
         self.assertEqual((len({*same}), same[0]), (1, same[1]))
         other = [same[0], Template(b'$a'), Template('$b'), Template('$a', only=['a']), Template('$a', only=['b']),
-                 Template('$a', optional=True), Template('$a', only=['a'], optional=True)]
+                 Template('$a', optional=True), Template('$a', only=['a'], optional=True),
+                 Template('$a', no_empty=True), Template('$a', optional=True, no_empty=True)]
         self.assertEqual(len({*other}), len(other))
         for template in other:
             made = pickle.loads(pickle.dumps(template))
@@ -371,11 +421,12 @@ class Trees(Case):
         self.assertIsNot(found['$a'][7], tree['$a'][7])
         self.assertEqual(subst.fill_in_tree('$a', a='x'), 'x')
         self.assertEqual(subst.fill_in_tree(['$a', '$b'], only=iter('a'), optional=True), ['', '$b'])
+        self.assertEqual(subst.fill_in_tree(['$a'], only=[]), ['$a'])
 
     def test_refused(self):
-        error = self.refused(subst.fill_in_tree, {'a': ['', {'b': 'é$c'}], 'd': '$'}, {})
+        error = self.refused(subst.fill_in_tree, {'a': ['', {'b~/': 'é$c'}], 'd': '$'}, {})
         alone = self.refused(subst.fill_in, 'é$c', {})
-        self.assertEqual((error.message, error.args[1:]), (f'/a/1/b: {alone.message}', alone.args[1:]))
+        self.assertEqual((error.message, error.args[1:]), (f'/a/1/b~0~1: {alone.message}', alone.args[1:]))
         self.assertEqual(self.refused(subst.fill_in_tree, '$', {}).args, self.refused(subst.fill_in, '$', {}).args)
 
 
@@ -509,6 +560,9 @@ class Documents(Case):
                 (subst.fill_in_yaml, 'a: "$name\\n"  # $name\nb: [$none, \\$a]', 'a: "world\\n"  # $name\nb: [x, $a]'),
                 (subst.fill_in_yaml, '', '')):
             self.assertEqual(call(text, {**variables, 'none': 'x'}), wanted)
+            for kind in (bytes, bytearray, memoryview):
+                found = call(kind(text.encode()), encoded({**variables, 'none': 'x'}))
+                self.assertEqual((found, type(found)), (wanted.encode(), bytes))
 
     def test_values_of_yaml_get_double_quotes(self):
         for before, value, after in (('$x', 'a: b', '"a: b"'), ('$x', '', '""'), ('[$x]', 'a, b', '["a, b"]'),
@@ -532,6 +586,10 @@ class Documents(Case):
             lines = text[:error.position].split('\n')
             self.assertEqual((error.line, error.column), (len(lines), len(lines[-1]) + 1))
             self.assertEqual((error.highlighting, error.row), ('', None))
+            data, part = text.encode(), start.encode()
+            of_bytes = self.refused(call, data, {})
+            self.assertEqual((str(of_bytes), of_bytes.name), (str(error), error.name))
+            self.assertEqual((of_bytes.position, of_bytes.length), (data.index(part), len(part)))
 
     def test_refused_in_yaml(self):
         """The span of a fault is its own, within its value."""
@@ -575,10 +633,21 @@ class Documents(Case):
 
     def test_types(self):
         for call in (subst.fill_in_json, subst.fill_in_toml, subst.fill_in_yaml):
-            with self.assertRaisesRegex(TypeError, '^the document must be str, not bytes$'):
-                call(b'', {})
+            with self.assertRaisesRegex(TypeError, '^the document must be str or bytes, not int$'):
+                call(1, {})
             with self.assertRaisesRegex(TypeError, 'must be str as the source is, not bytes'):
                 call('"$a"', {'a': b''})
+            with self.assertRaisesRegex(TypeError, 'must be bytes as the source is, not str'):
+                call(b'"$a"', {b'a': ''})
+
+    def test_bytes_that_are_not_utf8(self):
+        for call in (subst.fill_in_json, subst.fill_in_toml, subst.fill_in_yaml):
+            with self.assertRaises(DocumentError) as caught:
+                call('é = "'.encode() + b'\xc3\n$a"', {b'a': b'\xff'})
+            self.assertEqual(caught.exception.args, ('invalid UTF-8', 6, 1, None, None))
+            with self.assertRaisesRegex(UnicodeDecodeError, "invalid start byte in the value of b'b'$") as caught:
+                call(b'"a" = "$a$b"', {b'a': 'é'.encode(), b'b': b'x\xff'})
+            self.assertEqual(caught.exception.args[:4], ('utf-8', b'x\xff', 1, 2))
 
     def test_not_confirmed(self):
         library = mock.Mock(**{'subst_json.return_value': 8, 'subst_yaml.return_value': 8})
@@ -631,10 +700,56 @@ class Types(Case):
     def test_surrogates(self):
         for source, variables in (('\udc80', {}), ('$a', {'a': '\udfff'})):
             for call in self.calls(source, variables):
-                with self.assertRaisesRegex(UnicodeEncodeError, 'surrogates not allowed'):
+                said = "surrogates not allowed in the value of 'a'$" if variables else 'surrogates not allowed$'
+                with self.assertRaisesRegex(UnicodeEncodeError, said) as caught:
                     call()
+                error = caught.exception
+                self.assertEqual((error.object, error.start, error.end), (variables.get('a', source), 0, 1))
+        for variables in ({'a': 'x', 'b': 'é\ud800\ud800'}, {'b': 'é\ud800\ud800'}):
+            with self.assertRaisesRegex(UnicodeEncodeError, "not allowed in the value of 'b'$") as caught:
+                subst.fill_in('${a:}$b', variables)
+            self.assertEqual((caught.exception.object, caught.exception.start), (variables['b'], 1))
         with self.assertRaises(ValueError):
             subst.check('\udc80')
+
+
+class Contexts(Case):
+    """The contexts of errors."""
+
+    def expect(self, error, call, *arguments):
+        """Expects this error, without another one as its context."""
+        with self.assertRaises(error) as caught:
+            call(*arguments)
+        self.assertIsNone(caught.exception.__context__)
+
+    def test_errors_are_raised_alone(self):
+        used = Template('$a')
+        self.assertEqual([used.fill_in(a='1') for _ in range(4)], ['1'] * 4)
+        calls = (used.fill_in, Template('$a').fill_in, lambda it: Template('$a').fill_in_each([it]),
+                 *(lambda it, text=text: subst.fill_in(text, it) for text in ('$a', '$a' + ' ' * MIB)),
+                 lambda it: subst.fill_in('$a', collections.ChainMap(it)), lambda it: subst.fill_in('$a', **it),
+                 lambda it: subst.fill_in_json('"$a"', it), lambda it: subst.fill_in_toml('a = "$a"', it),
+                 lambda it: subst.fill_in_yaml('a: $a', it), lambda it: subst.fill_in_tree(['$a'], it),
+                 lambda it: subst.fill_in_by_style('${a?}', it, forms=Forms.SHELL),
+                 lambda it: subst.fill_in(subst.from_shell('${a:?b}'), it))
+        for call in calls:
+            self.expect(SubstError, call, {})
+            self.expect(TypeError, call, {'a': 1})
+            self.expect(UnicodeEncodeError, call, {'a': '\udc80'})
+        self.expect(SubstError, subst.check, '$')
+        self.expect(ShellError, subst.from_shell, '$1')
+        self.expect(DocumentError, subst.fill_in_json, b'\xff')
+        self.expect(UnicodeDecodeError, subst.fill_in_json, b'"$a"', {b'a': b'\xff'})
+
+    def test_frame_that_another_thread_takes(self):
+        class Taken(list):
+            def pop(self):
+                raise IndexError
+        template = Template('$a')
+        template._source.frames = Taken([None])
+        self.assertEqual(template.fill_in(a='1'), '1')
+        with mock.patch.object(template._source, 'call', return_value=_library.OUT_OF_MEMORY):
+            self.expect(MemoryError, lambda: template.fill_in(a='1'))
 
 
 class Outside(Case):
@@ -776,7 +891,8 @@ class Outside(Case):
 TYPED = """
 import os
 from typing import List
-from subst import Forms, Template, Variable, fill_in, fill_in_by_style, fill_in_tree, from_envsubst, from_shell, missing, variables
+from subst import (Forms, Template, Variable, fill_in, fill_in_by_style, fill_in_json, fill_in_toml, fill_in_tree,
+                   fill_in_yaml, from_envsubst, from_shell, missing, variables)
 
 text: str = fill_in('$a', {'a': '1'}, b='2', only=['a'], optional=True)
 data: bytes = fill_in(b'$a', {b'a': bytearray(b'1')})
@@ -792,6 +908,9 @@ envsubst: str = from_envsubst('$a')
 shell: bytes = from_shell(bytearray(b'$a'))
 styled: bytes = fill_in_by_style(b'$a', {b'a': b''}, forms=Forms.SHELL, known=True)
 tree: object = fill_in_tree(['$a'], a='x')
+json: str = fill_in_json('"$a"', {'a': '1'}, no_empty=True, b='2')
+toml: bytes = fill_in_toml(b'a = "$a"', {b'a': bytearray(b'1')})
+yaml: bytes = fill_in_yaml(memoryview(b'a: $a'), a=b'1')
 """
 
 if __name__ == '__main__':

@@ -5,9 +5,11 @@ import importlib.util
 import os
 import pathlib
 import re
+import runpy
 import shutil
 import sys
 import unittest
+import zipfile
 
 from building import TOP
 from tests.installed import packages, prefix
@@ -44,6 +46,21 @@ class PythonLibrary(Built):
 
     def test_a_wheel_is_made_again_with_the_same_bytes(self):
         self.assertTrue(wheel('a').read_bytes() == wheel('b').read_bytes())
+
+    def test_the_platform_of_a_wheel_is_that_of_its_library(self):
+        platform_of = runpy.run_path(str(TOP / 'python/backend.py'))['platform_of']
+        for names, platform in ((b'GLIBC_2.14\0GLIBC_2.2.5', 'manylinux_2_14'), (b'', 'linux'),
+                                (b'GLIBC_2.9\0GLIBC_2.10', 'manylinux_2_10'), (b'GLIBC_PRIVATE', 'linux'),
+                                (b'GLIBC_2.14\0GLIBC_ABI_DT_RELR', 'linux'), (b'GLIBC_2.2.5', 'manylinux_2_5')):
+            self.assertEqual(platform_of(b'\0libc.so.6\0' + names + b'\0'), f'{platform}_x86_64')
+        path = wheel('wheel')
+        with zipfile.ZipFile(path) as archive:
+            library = archive.extract('subst/libsubst.so.0')
+            tags = [archive.read(name).decode() for name in archive.namelist() if name.endswith('/WHEEL')]
+        needed = re.findall(r'GLIBC_2\.(\d+)', ran(['objdump', '-T', library]))
+        platform = f'manylinux_2_{max(map(int, needed))}_x86_64'
+        self.assertTrue(path.name.endswith(f'-py3-none-{platform}.whl'), path)
+        self.assertRegex(tags[0], f'\nTag: py3-none-{platform}\n')
 
     @unittest.skipIf(importlib.util.find_spec('ensurepip') is None, 'Python has no ensurepip')
     def test_a_wheel_installs_into_a_clean_environment(self):

@@ -5,7 +5,7 @@ import ctypes
 import os
 from typing import Any, Dict, List
 
-DONE, REFUSED, OUT_OF_MEMORY, ROOM_TOO_SMALL, NOT_CONFIRMED = 0, 1, 4, 5, 8
+DONE, REFUSED, OUT_OF_MEMORY, ROOM_TOO_SMALL, NOT_UTF8, NOT_CONFIRMED = 0, 1, 4, 5, 6, 8
 # The kinds of fault of a source that is no document, and of a text with a form that is refused.
 INVALID_DOCUMENT, REFUSED_FORM = 6, 7
 # The choices of names of a style.

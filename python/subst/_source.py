@@ -5,13 +5,14 @@ import re
 from abc import ABC, abstractmethod
 from array import array
 from collections import abc
-from itertools import chain, cycle
+from itertools import accumulate, chain, cycle
 from operator import itemgetter
 from typing import Any, AnyStr, Callable, Dict, FrozenSet, Generic, Iterable, List, Mapping, Optional, Sequence, Tuple
 
 from . import _foreign
-from ._library import DONE, INVALID_DOCUMENT, NOT_CONFIRMED, OUT_OF_MEMORY, REFUSED, ROOM_TOO_SMALL, library as _library
-from ._memory import (BYTES, FRAME_SOURCE, FRAME_VALUES, HEAD, NEEDED, PAIR, RECORD, ROW, TEXT, Encoding, Frame, Memory,
+from ._library import (DONE, INVALID_DOCUMENT, NOT_CONFIRMED, NOT_UTF8, OUT_OF_MEMORY, REFUSED, ROOM_TOO_SMALL,
+                       library as _library)
+from ._memory import (BYTES, FRAME_SOURCE, FRAME_VALUES, HEAD, NEEDED, PAIR, RECORD, ROW, Encoding, Frame, Memory,
                       address_of, frame_for, given_back, taken)
 from ._types import DocumentError, FaultKind, ShellError, ShellForm, SubstError, Variable, VariableKind
 
@@ -30,17 +31,19 @@ _WIDEST = 60
 class Filler(ABC, Generic[AnyStr]):
     """A text that is filled in, with the names that are looked up in a mapping."""
 
-    __slots__ = ('encoding', 'encoded', 'length', 'call', 'names', 'all_of', 'uses', 'pairs', 'held', 'frames', 'is_used')
+    __slots__ = ('encoding', 'encoded', 'length', 'call', 'names', 'all_of', 'uses', 'no_empty', 'pairs', 'held',
+                 'frames', 'is_used')
 
     encoding: Encoding[AnyStr]
     names: Tuple[AnyStr, ...]
     frames: List[Frame]
 
-    def __init__(self, encoding: Encoding[Any], encoded: bytes, call: _Call, names: Iterable[Any],
-                 uses: int) -> None:
+    def __init__(self, encoding: Encoding[Any], encoded: bytes, call: _Call, names: Iterable[Any], uses: int,
+                 no_empty: bool) -> None:
         """Takes a call with the parameters of subst_bytes_into, the names in the order of their lookups, and the most
-        variables that the text may have."""
+        variables that the text may have. With no_empty, an empty value counts as none."""
         self.encoding, self.encoded, self.length, self.call, self.uses = encoding, encoded, len(encoded), call, uses
+        self.no_empty = no_empty
         self.names = tuple(names)
         self.all_of = _getter(self.names)
         joined, lengths = encoding.joined(self.names)
@@ -60,28 +63,35 @@ class Filler(ABC, Generic[AnyStr]):
     def fill_in(self, variables: Mapping[Any, Any], more: Mapping[str, Any]) -> AnyStr:
         """Fills in, by a frame if there is one, and returns the output."""
         values = self.asked(variables, more)
+        lengths: Optional[List[int]]
+        # No except clause raises or calls on, so that no error has another one as its context.
         try:
             joined, lengths = self.encoding.joined(values)
-        except TypeError:
-            return self.fill_in_joined(*self.joined(values))
-        if not self.frames or len(joined) * self.uses > FRAME_VALUES:
+        except (TypeError, UnicodeEncodeError):
+            lengths = None
+        if lengths is None or self.no_empty and 0 in lengths:
+            return self.fill_in_joined(*self.joined_singly(values))
+        size, frames = len(joined), self.frames
+        if not frames or size * self.uses > FRAME_VALUES:
             return self.fill_in_joined(joined, lengths, ())
         try:
-            run, words, room, at = frame = self.frames.pop()
+            run, words, room, at = frame = frames.pop()
         except IndexError:
-            return self.fill_in_joined(joined, lengths, ())
-        room[:len(joined)] = joined
-        index = HEAD + 2
-        for length in lengths:
-            words[index] = at
-            words[index + 1] = length
-            at += length
-            index += PAIR
-        if run() != DONE:
-            return self.fill_in_joined(joined, lengths, ())
-        output = self.encoding.decoded(room[FRAME_VALUES:FRAME_VALUES + words[NEEDED]])
-        self.frames.append(frame)
-        return output
+            # Another thread took the last frame.
+            pass
+        else:
+            room[:size] = joined
+            index = HEAD + 2
+            for length in lengths:
+                words[index] = at
+                words[index + 1] = length
+                at += length
+                index += PAIR
+            if run() == DONE:
+                output = self.encoding.decoded(room[FRAME_VALUES:FRAME_VALUES + words[NEEDED]])
+                frames.append(frame)
+                return output
+        return self.fill_in_joined(joined, lengths, ())
 
     def fill_in_joined(self, joined: bytes, lengths: Sequence[int], absent: Sequence[int]) -> AnyStr:
         """Fills in from a result of `joined`, and returns the output."""
@@ -95,7 +105,7 @@ class Filler(ABC, Generic[AnyStr]):
             if result == DONE:
                 break
             if result != ROOM_TOO_SMALL:
-                raise self.refused(memory) if result == REFUSED else _failure(result)
+                raise self.refused(memory) if result == REFUSED else self.failed(result, joined, lengths)
             size = start + memory.words[NEEDED]
         output = self.encoding.decoded(memory.room[start:start + memory.words[NEEDED]])
         given_back(memory)
@@ -104,8 +114,13 @@ class Filler(ABC, Generic[AnyStr]):
         self.is_used = True
         return output
 
+    def failed(self, result: int, joined: bytes, lengths: Sequence[int]) -> Exception:
+        """Returns the error for a result other than REFUSED, of a call with these values."""
+        return _failure(result)
+
     def asked(self, variables: Mapping[Any, Any], more: Mapping[str, Any] = _NONE) -> Sequence[Any]:
-        """Returns the value of each name, or _ABSENT if both have none. Keyword arguments take precedence."""
+        """Returns the value of each name, or _ABSENT if both have none. Keyword arguments take precedence, but not an
+        empty one that counts as none."""
         if type(variables) is dict and not more:
             try:
                 return self.all_of(variables)
@@ -117,7 +132,7 @@ class Filler(ABC, Generic[AnyStr]):
         values = []
         for name in names:
             value = more.get(name if isinstance(name, str) else name.decode(), _ABSENT)
-            if value is _ABSENT:
+            if value is _ABSENT or self.no_empty and isinstance(value, self.encoding.types) and not value:
                 try:
                     value = variables[name]
                 except KeyError:
@@ -127,11 +142,17 @@ class Filler(ABC, Generic[AnyStr]):
 
     def joined(self, values: Sequence[Any]) -> _Joined:
         """Returns these values, of the names in turn, as the library takes them: the bytes of all, the length of each,
-        and the indices of those that are absent. Raises TypeError for a value of another type."""
-        try:
-            return (*self.encoding.joined(values), ())
-        except TypeError:
-            pass
+        and the indices of those that are absent. Raises TypeError for a value of another type, and UnicodeEncodeError
+        for one with a lone surrogate."""
+        if not self.no_empty:
+            try:
+                return (*self.encoding.joined(values), ())
+            except (TypeError, UnicodeEncodeError):
+                pass
+        return self.joined_singly(values)
+
+    def joined_singly(self, values: Sequence[Any]) -> _Joined:
+        """Does what `joined` does, for values of which some may be absent, empty or wrong."""
         given: List[Any] = []
         absent: List[int] = []
         for index, (name, value) in enumerate(zip(cycle(self.names), values)):
@@ -142,7 +163,15 @@ class Filler(ABC, Generic[AnyStr]):
                 wanted = self.encoding.kind.__name__
                 raise TypeError(f'the value of {name!r} must be {wanted} as the source is, not {type(value).__name__}')
             given.append(value)
-        return (*self.encoding.joined(given), absent)
+        try:
+            joined, lengths = self.encoding.joined(given)
+        except UnicodeEncodeError as error:
+            fault = _named(error, next(name for name, value in zip(cycle(self.names), given) if value is error.object))
+        else:
+            if self.no_empty:
+                absent = [index for index, length in enumerate(lengths) if length == 0]
+            return joined, lengths, absent
+        raise fault
 
 
 class Source(Filler[AnyStr]):
@@ -153,7 +182,8 @@ class Source(Filler[AnyStr]):
     given: AnyStr
 
     def __init__(self, encoding: Encoding[AnyStr], given: AnyStr, only: Optional[FrozenSet[bytes]] = None,
-                 optional: bool = False, names: Optional[Iterable[AnyStr]] = None) -> None:
+                 optional: bool = False, no_empty: bool = False,
+                 names: Optional[Iterable[AnyStr]] = None) -> None:
         """Raises SubstError if the source is no template. If names are passed, which must be all that have a value,
         this isn't checked, and the variables aren't listed."""
         original = encoded = encoding.encoded(given)
@@ -172,7 +202,7 @@ class Source(Filler[AnyStr]):
         self.places = dict(zip(self.records[1::RECORD], starts)) if starts else {}
         if names is None:
             names = dict.fromkeys(encoding.parts(encoded, self.records[1::RECORD], self.records[2::RECORD]))
-        super().__init__(encoding, encoded, _library.subst_bytes_into, names, encoded.count(b'$'))
+        super().__init__(encoding, encoded, _library.subst_bytes_into, names, encoded.count(b'$'), no_empty)
 
     def refused(self, memory: Memory) -> SubstError:
         return self.error(memory.fault, memory.items_at)
@@ -237,16 +267,17 @@ class Source(Filler[AnyStr]):
         return [Variable(kind, name, index) for kind, name, index in zip(kinds, names, indices)]
 
 
-class Document(Filler[str]):
+class Document(Filler[AnyStr]):
     """A document whose strings are filled in."""
 
     __slots__ = ('kind',)
 
-    def __init__(self, kind: str, text: str) -> None:
+    def __init__(self, encoding: Encoding[AnyStr], kind: str, given: AnyStr, no_empty: bool) -> None:
         """Takes a document of the kind json, toml or yaml."""
-        encoded = TEXT.encoded(text)
-        names = [name.decode() for name in _foreign.names_in_document(kind, encoded)]
-        super().__init__(TEXT, encoded, getattr(_library, f'subst_{kind}'), dict.fromkeys(names), len(names))
+        encoded = encoding.encoded(given)
+        found = _foreign.names_in_document(kind, encoded)
+        names = [encoding.decoded(bytearray(name)) for name in dict.fromkeys(found)]
+        super().__init__(encoding, encoded, getattr(_library, f'subst_{kind}'), names, len(found), no_empty)
         self.kind = kind
 
     def refused(self, memory: Memory) -> Exception:
@@ -254,8 +285,23 @@ class Document(Filler[str]):
                      len(self.names))
         kind, position, length = memory.fault
         if kind == INVALID_DOCUMENT:
-            return DocumentError(text, *span(TEXT, self.encoded, position, length))
-        return _error(TEXT, self.encoded, memory.fault, text)
+            return DocumentError(text, *span(self.encoding, self.encoded, position, length))
+        return _error(self.encoding, self.encoded, memory.fault, text)
+
+    def failed(self, result: int, joined: bytes, lengths: Sequence[int]) -> Exception:
+        """Returns the error for this result, also for a document or a value, in bytes, that isn't UTF-8."""
+        if result != NOT_UTF8:
+            return _failure(result)
+        ends = [*accumulate(lengths)]
+        values = [joined[start:end] for start, end in zip([0, *ends], ends)]
+        for name, data in zip((None, *self.names), (self.encoded, *values)):
+            try:
+                data.decode()
+            except UnicodeDecodeError as error:
+                if name is None:
+                    return DocumentError('invalid UTF-8', *span(self.encoding, data, error.start, 1))
+                return _named(error, name)
+        return _failure(result)
 
 
 def fill_in_large(encoding: Encoding[AnyStr], given: AnyStr, variables: Dict[Any, Any]) -> AnyStr:
@@ -310,6 +356,11 @@ def _records(encoding: Encoding[Any], source: bytes) -> array[int]:
 def _triples(records: Sequence[int]) -> Iterable[Tuple[int, int, int]]:
     """Returns the kind of each variable, in the lower half of its word, and the position and the length of its name."""
     return zip((word & 0xffffffff for word in records[0::RECORD]), records[1::RECORD], records[2::RECORD])
+
+
+def _named(error: UnicodeError, name: object) -> UnicodeError:
+    """Returns the error of a value with the name of its variable."""
+    return type(error)(*error.args[:-1], f'{error.args[-1]} in the value of {name!r}')
 
 
 def _failure(result: int) -> Exception:

@@ -20,11 +20,11 @@ class Text(Filler[AnyStr]):
     __slots__ = ('style', 'only', 'only_names', 'fault')
 
     def __init__(self, encoding: Encoding[AnyStr], given: AnyStr, forms: Forms, only: Optional[FrozenSet[bytes]],
-                 known: bool, optional: bool) -> None:
+                 known: bool, optional: bool, no_empty: bool) -> None:
         encoded = encoding.encoded(given)
         names = [encoding.decoded(bytearray(name)) for name in _foreign.names_in_text(encoded)
                  if only is None or name in only]
-        super().__init__(encoding, encoded, self.filled, dict.fromkeys(names), len(names))
+        super().__init__(encoding, encoded, self.filled, dict.fromkeys(names), len(names), no_empty)
         self.fault = array('Q', bytes(8 * _FAULT))
         self.only, self.only_names = array('Q'), bytearray(b''.join(only or ()) or b'\0')
         at = address_of(self.only_names)

@@ -161,8 +161,8 @@ class SubstError(_Located):
 
 
 class DocumentError(_Located):
-    """A text that isn't JSON, TOML or YAML, as the call requires. Its message is the reader's, which stopped at
-    text[position:position + length]. line and column are as in SubstError.
+    """A text that isn't JSON, TOML or YAML, as the call requires, or bytes that aren't UTF-8. Its message is the
+    reader's, which stopped at text[position:position + length]. line and column are as in SubstError.
     """
 
     def __init__(self, message: str, position: int, length: int, line: Optional[int], column: Optional[int]) -> None:
