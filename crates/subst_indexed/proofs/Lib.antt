@@ -1,0 +1,12 @@
+pub mod CellsValueLemmas
+pub mod CellsMadeLemmas
+pub mod WalkLemmas
+pub mod TemplateLemmas
+pub mod NumberingLemmas
+pub mod SinkLemmas
+pub mod ParseLemmas
+pub mod StopLemmas
+pub mod StepLemmas
+pub mod NameLemmas
+pub mod DistinctLemmas
+pub mod NumberMapLemmas

@@ -1,0 +1,15 @@
+pub mod Cell
+pub mod Expansion
+pub mod Laws
+pub mod Names
+pub mod Numbering
+pub mod Outcome
+pub mod Output
+pub mod Parsed
+pub mod Sink
+pub mod SliceOutput
+pub mod Slot
+pub mod Step
+pub mod Stops
+pub mod Template
+pub mod Walk
