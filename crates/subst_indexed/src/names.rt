@@ -1,6 +1,6 @@
 //! The distinct names of a template, in the order of first use.
 
-ghost use Rattle.std.specs.Prelude.{◌≡◌, ◌+◌, ◌<◌, ◌^◌, ◌++◌, [], ◌∷◌, List, None, Some, length, map, slice_index, take, IfOk, IfSome, OnErr, OnOk};
+ghost use Rattle.std.specs.Prelude.{◌≡◌, ◌+◌, ◌<◌, ◌^◌, ◌++◌, [], ◌∷◌, List, None, Some, false, length, map, slice_index, take, IfOk, IfSome, OnErr, OnOk};
 ghost use Rattle.std.proofs.Props.{props};
 ghost use Rattle.std.specs.List.{All};
 ghost use Rattle.subst_language.specs.Parts.Span.{IsSpan, span_bytes};
@@ -40,7 +40,7 @@ impl<'s> Name<'s> {
     }
 }
 
-/// The highest number of names for which a search is no slower than a map.
+/// The highest number of names for which comparing them one after the other is no slower than a map.
 const FEW_NAMES: usize = 64;
 
 /// The number of buckets.
@@ -54,8 +54,8 @@ const BUCKETS: usize = 64;
 #[derive(Drop)]
 pub(crate) struct Names<'s> {
     pub list: Vec<Name<'s>>,
-    buckets: [u32; BUCKETS],
     numbers: Option<NumberMap<'s>>,
+    buckets: [u32; BUCKETS],
     ghost distinct: { AreDistinct (name_bytes list.items) },
     ghost marked: { AreMarked (name_bytes list.items) buckets },
     ghost numbered: { IfSome numbers (λ map. HasNumbers map (name_bytes list.items)) } by { Prim.hlevel props },
@@ -73,8 +73,8 @@ impl<'s> Names<'s> {
         let list = Vec::with_capacity(alloc, FIRST_NAMES)?;
         Ok(Names {
             list,
-            buckets: [0; BUCKETS],
             numbers: None,
+            buckets: [0; BUCKETS],
         })
     }
 
@@ -126,6 +126,15 @@ impl<'s> Names<'s> {
                 return Some(recent - 1);
             }
         }
+        self.search(bytes)
+    }
+
+    /// Returns the index of a name, or `None` if it is new. Looks it up in the map, or, if there is none,
+    /// compares the names one after the other.
+    #[inline(never)]
+    fn search(&self, bytes: &[u8]) -> Option<usize>
+        ensures { result ≡ number_of (name_bytes self.now.list.items) bytes.now }
+    {
         match &self.numbers {
             Some(map) => number_in(map, bytes),
             None => find(&self.list, bytes),
@@ -144,38 +153,43 @@ impl<'s> Names<'s> {
             × AddsName start bytes.now self.old.list.items self.new.list.items) }
         ensures err { OnErr result (self.new.list.items ≡ self.old.list.items) }
     {
+        if self.needs_map() {
+            return self.add_to_map(start, bytes, bucket);
+        }
         let number = index_as_u32(self.list.len())?;
-        let numbers = self.take_numbers_with(bytes, number)?;
         self.buckets[bucket] = number.saturating_add(1);
         self.list.push(Name { start, bytes })?;
-        self.numbers = numbers;
         Ok(number)
     }
 
-    /// Takes the map of the names, with a new name and its number. Returns `None` if the names are few.
+    /// Returns whether there is a map, or a new name needs one.
+    #[inline(always)]
+    fn needs_map(&self) -> bool
+        ensures { result ≡ false → self.now.numbers ≡ None }
+    {
+        self.numbers.is_some() || self.list.len() >= FEW_NAMES
+    }
+
+    /// Adds a new name, which is in this bucket, to the list and to the map, and returns its number.
     ///
     /// # Errors
     ///
-    /// If allocation fails.
-    #[inline(always)]
-    fn take_numbers_with(
-        &mut self,
-        bytes: &'s [u8],
-        number: u32,
-    ) -> Result<Option<NumberMap<'s>>, AllocError>
-        requires next { number ≡ length self.old.list.items }
+    /// If allocation fails. The names are then unchanged, but may have no map.
+    #[inline(never)]
+    fn add_to_map(&mut self, start: u32, bytes: &'s [u8], bucket: usize) -> Result<u32, AllocError>
+        requires bucket { bucket ≡ bucket_of bytes.now }
         requires new { number_of (name_bytes self.old.list.items) bytes.now ≡ None }
-        ensures list { self.new.list.items ≡ self.old.list.items }
-        ensures buckets { self.new.buckets ≡ self.old.buckets }
-        ensures numbers { IfOk result (λ numbers. IfSome numbers
-            (λ map. HasNumbers map (name_bytes self.old.list.items ++ bytes.now ∷ []))) }
+        ensures ok { IfOk result (λ number. (number ≡ length self.old.list.items)
+            × AddsName start bytes.now self.old.list.items self.new.list.items) }
+        ensures err { OnErr result (self.new.list.items ≡ self.old.list.items) }
     {
-        if self.list.len() < FEW_NAMES {
-            return Ok(None);
-        }
-        let mut map = self.take_numbers()?;
+        let number = index_as_u32(self.list.len())?;
+        let mut map = self.take_map()?;
         insert(&mut map, bytes, number)?;
-        Ok(Some(map))
+        self.buckets[bucket] = number.saturating_add(1);
+        self.list.push(Name { start, bytes })?;
+        self.numbers = Some(map);
+        Ok(number)
     }
 
     /// Takes the map of the names, or creates it if there is none.
@@ -183,7 +197,7 @@ impl<'s> Names<'s> {
     /// # Errors
     ///
     /// If allocation fails.
-    fn take_numbers(&mut self) -> Result<NumberMap<'s>, AllocError>
+    fn take_map(&mut self) -> Result<NumberMap<'s>, AllocError>
         ensures list { self.new.list.items ≡ self.old.list.items }
         ensures buckets { self.new.buckets ≡ self.old.buckets }
         ensures numbers { IfOk result
@@ -211,7 +225,8 @@ impl<'s> Names<'s> {
         Ok(())
     }
 
-    /// Removes all names but the first `len`, and the map. The next name that is added creates it again.
+    /// Removes all names but the first `len`. The map is removed too, and is created again when a name needs
+    /// it.
     #[cold]
     pub fn truncate(&mut self, len: usize)
         ensures { self.new.list.items ≡ take len self.old.list.items }
