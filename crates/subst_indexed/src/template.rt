@@ -1,6 +1,6 @@
 //! Indexed templates over borrowed byte sources.
 
-ghost use Rattle.std.specs.Prelude.{◌≡◌, IfOk, length, slice_get};
+ghost use Rattle.std.specs.Prelude.{◌≡◌, ◌≤◌, ◌^◌, IfErr, IfOk, length, slice_get};
 ghost use Rattle.std.specs.Option.{option_map};
 ghost use Rattle.subst_error.specs.ErrorFault.{expand_into_fault};
 ghost use Rattle.subst_language.specs.Calls.Outcome.{Expands, OnFault};
@@ -11,6 +11,7 @@ ghost use Rattle.subst_language.specs.Language.Variables.{variables_of};
 ghost use Rattle.subst_indexed.specs.Numbering.{first_uses, look_by_number, names_of};
 ghost use Rattle.subst_indexed.specs.Parsed.{index_fault};
 ghost use Rattle.subst_indexed.specs.Slot.{values_of};
+ghost use Rattle.subst_indexed.specs.declared.parse.IndexError.TheVariants as errors;
 ghost use Rattle.subst_indexed.specs.Stops.{IsNamedStop, stop_fault};
 
 use crate::cell::Cell;
@@ -61,6 +62,7 @@ impl<'s> IndexedTemplate<'s> {
         // Only a sentence has a template, and the template's source is this sentence.
         ensures ok { IfOk result (λ template. IsSentence source.now × (template ≡ source.now)) }
         ensures fault { OnFault index_fault result (HasFault 0 source.now) }
+        ensures too_long { IfErr result (λ e. e ≡ errors.TooLong → 2 ^ 32 ≤ length source.now) }
     {
         let cells = parse(alloc, source)?;
         Ok(IndexedTemplate { source, cells })
