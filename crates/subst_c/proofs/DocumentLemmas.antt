@@ -1,7 +1,7 @@
 -- Lemmas on the reports of documents.
 use Rattle.std.proofs.Common.{◌≡◌, ◌≤◌, ℕ, ◌+◌, List, [], ◌∷◌, length, map, Option, Some, Result, Ok, Err, IfOk, String, string_bytes, inl, inr, refl, ap, ◌∙◌, subst, sym}
 use Rattle.std.specs.Global.{Global}
-use Rattle.std.specs.List.{slice_get, AllByRecursion}
+use Rattle.std.specs.List.{slice_get}
 use Rattle.std.specs.Prelude.{◌≢◌, IsUtf8}
 use Rattle.std.specs.Result.{IsErrAnd, IsOkAnd}
 use Rattle.std.specs.declared.alloc.AllocError.{AllocError}
@@ -9,9 +9,10 @@ use Rattle.std.specs.declared.ops.Range.{Range}
 use Rattle.subst_error.specs.ErrorFault.{error_fault}
 use Rattle.subst_error.specs.Fault.{Fault}
 use Rattle.subst_error.specs.Range.{range_at, range_of}
+use Rattle.subst_language.proofs.CallingLemmas.{same_look_up}
+use Rattle.subst_language.specs.Calls.VariableMap.{look_up_of}
 use Rattle.subst_language.specs.Language.LookUp.{LookUp}
 use Rattle.subst_language.specs.Language.Several.{under}
-use Rattle.subst_document.specs.Paths.{PathStep}
 use Rattle.subst_document.specs.declared.edits.RefusalAt.{RefusalAt}
 use Rattle.subst_json.specs.Listed.{refusal_at}
 use Rattle.subst_json.specs.Listed as json_listed
@@ -143,6 +144,11 @@ refused_text look s fault (Refused report) text h invalid =
     }
 refused_text look s fault NotConfirmed text h invalid = tt
 refused_text look s fault (OutOfMemory e) text h invalid = tt
+
+-- the report of a document that is refused with a map of pairs, under their look-up
+pub refused_by_pairs : (format : Format) (look : LookUp) (s : List ℕ) (r : Unfilled)
+    → IfRefused r (IsRefusal format (look_up_of (λ bytes. bytes) look) s) → IfRefused r (IsRefusal format look s)
+refused_by_pairs format look s r is = subst (λ l. IfRefused r (IsRefusal format l s)) (same_look_up look) is
 
 -- the output of a result is the document with its strings filled in
 pub filled_by : (format : Format) (look : LookUp) (s : List ℕ) (r : Result (String Global) Unfilled)

@@ -23,12 +23,12 @@ use Rattle.subst_c.specs.Pairs.{pair_value}
 use Rattle.subst_c.specs.declared.pairs.Row.{Row}
 
 -- there are as many ends as outputs
-length-ends_from : (n : ℕ) (outputs : List (List ℕ)) → length (ends_from n outputs) ≡ length outputs
+pub length-ends_from : (n : ℕ) (outputs : List (List ℕ)) → length (ends_from n outputs) ≡ length outputs
 length-ends_from n [] = refl
 length-ends_from n (o ∷ outputs) = ap suc (length-ends_from (n + length o) outputs)
 
 -- the next output ends where all of them end
-ends_from-append : (n : ℕ) (outputs : List (List ℕ)) (output : List ℕ) → ends_from n (outputs ++ output ∷ [])
+pub ends_from-append : (n : ℕ) (outputs : List (List ℕ)) (output : List ℕ) → ends_from n (outputs ++ output ∷ [])
     ≡ ends_from n outputs ++ (n + length (concat outputs ++ output)) ∷ []
 ends_from-append n [] output = refl
 ends_from-append n (o ∷ outputs) output =
@@ -39,7 +39,7 @@ ends_from-append n (o ∷ outputs) output =
     ap (λ l. (n + length o) ∷ l) (later ∙ ap (λ m. ends_from (n + length o) outputs ++ m ∷ []) e)
 
 -- the concatenated outputs, with one more
-concat-more : (outputs : List (List ℕ)) (output : List ℕ)
+pub concat-more : (outputs : List (List ℕ)) (output : List ℕ)
     → concat (outputs ++ output ∷ []) ≡ concat outputs ++ output
 concat-more outputs output =
     concat-append outputs (output ∷ []) ∙ ap (λ x. concat outputs ++ x) (append-nil output)
@@ -99,20 +99,26 @@ refused_within s rows i e h =
     some_look (Some f) (inr at) = (pair_value at.here.pairs.now, at.refused)
 
 -- a missing variable is the fault that the source is refused for
-pub refused_for_missing : {T : Type 0} (s : List ℕ) (look : LookUp) (t : Tree) (r : Result T ExpandError)
+pub refused_for_value : {T : Type 0} (s : List ℕ) (look : LookUp) (t : Tree) (r : Result T ExpandError)
     (e : ExpandError) → IsErrAnd r (λ x. x ≡ e) → Spells t s
-    → IfSome (expand_fault e) (IsMissing (value 0 t (look_up_of (λ v. v) look)))
+    → IfSome (expand_fault e) (IsMissing (value 0 t look))
     → IfErr r (λ x. IfSome (expand_fault x) (λ f. Answers s look (Refuses f)))
-refused_for_missing s look t (Ok x) e same spells h = tt
-refused_for_missing s look t (Err x) e same spells h =
-    subst (λ y. IfSome (expand_fault y) (λ f. Answers s look (Refuses f))) (sym same)
-    (of (expand_fault e)
-    (subst (λ l. IfSome (expand_fault e) (IsMissing (value 0 t l))) (same_look_up look) h))
+refused_for_value s look t (Ok x) e same spells h = tt
+refused_for_value s look t (Err x) e same spells h =
+    subst (λ y. IfSome (expand_fault y) (λ f. Answers s look (Refuses f))) (sym same) (of (expand_fault e) h)
   where
     of : (o : Option Fault) → IfSome o (IsMissing (value 0 t look))
         → IfSome o (λ f. Answers s look (Refuses f))
     of None missing = tt
     of (Some f) missing = inr (t, spells, missing)
+
+pub refused_for_missing : {T : Type 0} (s : List ℕ) (look : LookUp) (t : Tree) (r : Result T ExpandError)
+    (e : ExpandError) → IsErrAnd r (λ x. x ≡ e) → Spells t s
+    → IfSome (expand_fault e) (IsMissing (value 0 t (look_up_of (λ v. v) look)))
+    → IfErr r (λ x. IfSome (expand_fault x) (λ f. Answers s look (Refuses f)))
+refused_for_missing s look t r e same spells h =
+    refused_for_value s look t r e same spells
+    (subst (λ l. IfSome (expand_fault e) (IsMissing (value 0 t l))) (same_look_up look) h)
 
 -- bytes that are the value of the source's tree are its output
 pub gives_value : (s x : List ℕ) (look : LookUp) (t : Tree) → Spells t s

@@ -45,7 +45,7 @@ adds_if_new m n name value w updates is other =
     of false differ = grind (arith, common_steps, after, turned, differ)
 
 -- the value of a name once a pair is appended: that of the pair if there was none
-pair_value-append : (pairs : List Pair) (pair : Pair) (name : List ℕ)
+pub pair_value-append : (pairs : List Pair) (pair : Pair) (name : List ℕ)
     → pair_value (pairs ++ pair ∷ []) name ≡ option_or (pair_value pairs name)
     (if bytes_eq name pair.name.now then Some pair.value.now else None)
 pair_value-append [] pair name = grind (arith, common_steps)

@@ -120,7 +120,7 @@ fn values_are_texts(pairs: &[Pair]) -> bool
 }
 
 /// Returns whether the bytes are UTF-8.
-fn is_text(bytes: &[u8]) -> bool
+pub fn is_text(bytes: &[u8]) -> bool
     ensures { result ≡ is_utf8 bytes.now }
 {
     simdutf8::basic::from_utf8(bytes).is_ok()

@@ -6,17 +6,17 @@ ghost use Rattle.subst_c.specs.declared.outcome.TheConstants.{DONE, ROOM_TOO_SMA
 
 use crate::outcome::{DONE, ROOM_TOO_SMALL};
 
-/// Writes bytes to the front of the buffer, and their number to `needed`. If they don't fit, the buffer is
+/// Writes items to the front of the buffer, and their number to `needed`. If they don't fit, the buffer is
 /// unchanged.
-pub fn deliver(bytes: &[u8], buffer: &mut [u8], needed: &mut usize) -> u32
-    ensures buffer { FillsBuffer (λ x. x ≡ bytes.now)
+pub fn deliver<T: Copy>(items: &[T], buffer: &mut [T], needed: &mut usize) -> u32
+    ensures buffer { FillsBuffer (λ x. x ≡ items.now)
         result needed.old needed.new buffer.old buffer.new }
     ensures others { result ≢ DONE → result ≡ ROOM_TOO_SMALL }
 {
-    *needed = bytes.len();
-    if buffer.len() < bytes.len() {
+    *needed = items.len();
+    if buffer.len() < items.len() {
         return ROOM_TOO_SMALL;
     }
-    buffer[..bytes.len()].copy_from_slice(bytes);
+    buffer[..items.len()].copy_from_slice(items);
     DONE
 }

@@ -19,6 +19,7 @@ use std::alloc::{AllocError, Global};
 use std::ops::Range;
 use subst_error::Error;
 
+pub(crate) mod by_names;
 pub(crate) mod of_json;
 pub(crate) mod of_toml;
 pub(crate) mod of_yaml;

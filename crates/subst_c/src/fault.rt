@@ -28,6 +28,10 @@ pub const NO_SUCH_VARIABLE: u32 = 5;
 /// A source that isn't a document of the format that the called function expects.
 pub const INVALID_DOCUMENT: u32 = 6;
 
+/// A character that can't follow the name of a placeholder in braces, in a source whose parse refuses
+/// `${name?}`. The number 7 is that of a refused form.
+pub const UNEXPECTED_AFTER_NAME: u32 = 8;
+
 /// The number of a fault's kind, and its span in the source: a byte offset, and a length in bytes.
 #[repr(C)]
 #[derive(Clone, Copy)]

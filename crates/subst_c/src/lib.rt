@@ -50,14 +50,24 @@ pub use variables::VariableRecord;
 
 mod answer;
 mod buffer;
+mod cells;
 mod document;
 mod each;
+mod error;
+mod expand;
 mod fault;
 mod foreign;
 mod into;
+pub mod named_documents;
+mod names;
+mod numbered;
 pub mod outcome;
 mod pairs;
+mod row_values;
+mod rows;
 mod style;
+pub mod template;
+mod value;
 mod variables;
 
 /// Returns the version of the library as one number, such as 102 for 0.1.2.

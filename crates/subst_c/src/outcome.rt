@@ -21,5 +21,14 @@ pub const NOT_A_BOUNDARY: u32 = 7;
 /// The output of a document isn't confirmed to be right.
 pub const NOT_CONFIRMED: u32 = 8;
 
-/// A style's `forms`, `names` or `missing` isn't a defined number.
+/// The flags of a parse, or a style's `forms`, `names` or `missing`, aren't a defined number.
 pub const NO_SUCH_STYLE: u32 = 9;
+
+/// The cells are no template of a source of this length, or are damaged.
+pub const NOT_A_TEMPLATE: u32 = 10;
+
+/// The value of a needed variable hasn't been asked for.
+pub const ASKS: u32 = 11;
+
+/// The source has more than `u32::MAX` bytes.
+pub const TOO_LONG: u32 = 12;

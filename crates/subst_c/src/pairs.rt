@@ -57,7 +57,7 @@ impl<'a> VariableMap<'a> for Pairs<'_> {
     fn get(&'a self, key: &str) -> Option<&'a [u8]> {
         match &self.index {
             Some(index) => index.get(key.as_bytes()).copied(),
-            None => find(self.pairs, key),
+            None => find(self.pairs, key.as_bytes()),
         }
     }
 }
@@ -97,10 +97,11 @@ impl<'a> VariableMap<'a> for TextPairs<'_> {
 }
 
 /// Returns the value of the first pair with the name. Searches the pairs in turn.
-fn find<'a>(pairs: &[Pair<'a>], name: &str) -> Option<&'a [u8]>
+#[inline(always)]
+pub fn find<'a>(pairs: &[Pair<'a>], name: &[u8]) -> Option<&'a [u8]>
     ensures { option_map (λ value. value.now) result ≡ pair_value pairs.now name.now }
 {
-    let pair = pairs.iter().find(|pair| name.as_bytes() == pair.name)?;
+    let pair = pairs.iter().find(|pair| name == pair.name)?;
     Some(pair.value)
 }
 
@@ -147,7 +148,7 @@ fn index<'a>(alloc: Global, pairs: &'a [Pair<'a>]) -> Result<Index<'a>, AllocErr
 }
 
 /// Inserts the value under its name, unless the name already has a value.
-fn insert_if_new<'a>(
+pub fn insert_if_new<'a>(
     index: &mut Index<'a>,
     name: &'a [u8],
     value: &'a [u8],

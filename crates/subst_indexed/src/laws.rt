@@ -31,6 +31,6 @@ pub fn cells_expand_to_the_value()
 /// The law of any cells. Whatever cells are expanded with whatever source, the output is made of spans of the
 /// source, of values, and of single bytes of cells. The name of a missing variable lies in the source.
 pub fn any_cells_are_harmless()
-    ensures { (s : List ℕ) (cells : List Cell) (values : Values)
+    ensures harmless { (s : List ℕ) (cells : List Cell) (values : Values)
         → IsHarmless s values cells (template_expansion cells s values) }
 {}

@@ -23,7 +23,7 @@ pub trait AsSlot {
 
     /// Returns the value as far as it is known.
     fn slot(&self) -> Slot<'_>
-        ensures { slot_value result ≡ known self.now };
+        ensures slot { slot_value result ≡ known self.now };
 }
 
 /// A value, or none. It is always known.

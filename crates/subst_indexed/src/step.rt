@@ -38,7 +38,7 @@ pub fn expand_step<V: AsSlot>(
     cursor: &mut Cursor,
     slice: &mut [u8],
 ) -> Result<(), Stop>
-    ensures { StepsTo (λ number. known_at V.known values.now number ≡ None)
+    ensures steps { StepsTo (λ number. known_at V.known values.now number ≡ None)
         (Agree V.known values.now) cells.now source.now result cursor.old cursor.new
         slice.old slice.new }
 {

@@ -78,21 +78,21 @@ impl<'s> IndexedTemplate<'s> {
 
     /// Returns the cells of the template, as `expand` and `expand_step` take them.
     pub fn cells(&self) -> &[Cell]
-        ensures { (names : List (List ℕ)) × IsCellsOf self.now names result.now }
+        ensures cells { (names : List (List ℕ)) × IsCellsOf self.now names result.now }
     {
         &self.cells
     }
 
     /// Returns the number of distinct names.
     pub fn name_count(&self) -> usize
-        ensures { ByTree self.now (λ t. result ≡ length (first_uses (variables_of 0 t))) }
+        ensures count { ByTree self.now (λ t. result ≡ length (first_uses (variables_of 0 t))) }
     {
         name_count(&self.cells)
     }
 
     /// Returns the name with a number, or `None` if there is none.
     pub fn name(&self, number: usize) -> Option<&'s [u8]>
-        ensures { ByTree self.now (λ t. option_map (λ name. name.now) result
+        ensures name { ByTree self.now (λ t. option_map (λ name. name.now) result
             ≡ slice_get (names_of (first_uses (variables_of 0 t))) number) }
     {
         let span = name_span(&self.cells, number)?;

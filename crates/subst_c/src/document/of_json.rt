@@ -1,13 +1,18 @@
 //! Filling in JSON documents.
 
 ghost use Rattle.std.specs.Prelude.{IfOk};
+ghost use Rattle.subst_language.specs.Calls.VariableMap.{ByLookUp};
+ghost use Rattle.subst_c.specs.DocumentNames.{IsNamesResult};
 ghost use Rattle.subst_c.specs.Documents.{IfRefused, IsInvalid, IsRefusal, IsResultOf, Json};
 ghost use Rattle.subst_c.specs.Pairs.{pair_value};
 
+use super::by_names::{EveryName, names_of};
 use super::{Unfilled, invalid, refused};
 use crate::pairs::TextPairs;
 use std::alloc::{AllocError, Global};
-use subst_json::{Error, place_in, reader_stop, refusals_in};
+use std::convert::AsStr;
+use subst_json::{Error, place_in, reader_stop, refusals_in, strings};
+use subst_language::VariableMap;
 
 /// Fills in the strings of a JSON document from pairs, and returns the output.
 ///
@@ -30,6 +35,27 @@ pub fn fill_in(alloc: Global, source: &str, pairs: &TextPairs<'_>) -> Result<Str
     }
 }
 
+/// Returns the names of the variables in the strings of a JSON document, each once, in the order of first
+/// use.
+///
+/// # Errors
+///
+/// If the source isn't JSON, if a string has a fault, or if allocation fails.
+pub fn names(alloc: Global, source: &str) -> Result<Vec<String>, Unfilled>
+    ensures { IsNamesResult Json source.now result }
+{
+    let list = match strings(alloc, source) {
+        Ok(Some(list)) => list,
+        Err(Error::Json(e)) => return Err(text_refusal(alloc, source, &e)?),
+        Err(Error::OutOfMemory(e)) => return Err(Unfilled::OutOfMemory(e)),
+        _ => return Err(Unfilled::NotConfirmed),
+    };
+    match names_of(alloc, &list)? {
+        Some(names) => Ok(names),
+        None => Err(first_refusal(alloc, source, &EveryName)?),
+    }
+}
+
 /// Returns the refusal of a text that isn't JSON, with the reader's message.
 ///
 /// # Errors
@@ -48,11 +74,17 @@ fn text_refusal(alloc: Global, source: &str, e: &serde_json::Error) -> Result<Un
 /// # Errors
 ///
 /// If allocation fails.
-fn first_refusal(alloc: Global, source: &str, pairs: &TextPairs<'_>) -> Result<Unfilled, AllocError>
-    ensures { IfOk result (λ refusal. IfRefused refusal
-        (IsRefusal Json (pair_value pairs.now.pairs.pairs.now) source.now)) }
+fn first_refusal<'a, M: VariableMap<'a>>(
+    alloc: Global,
+    source: &str,
+    variables: &'a M,
+) -> Result<Unfilled, AllocError>
+where
+    M::Value: AsStr + Drop,
+    ensures { ByLookUp M.Value.text M.see (M.look_up variables.now) (λ look.
+        IfOk result (λ refusal. IfRefused refusal (IsRefusal Json look source.now))) }
 {
-    let all = match refusals_in(alloc, source, pairs) {
+    let all = match refusals_in(alloc, source, variables) {
         Ok(Some(all)) => all,
         Err(Error::OutOfMemory(e)) => return Err(e),
         _ => return Ok(Unfilled::NotConfirmed),

@@ -1,13 +1,18 @@
 //! Filling in TOML documents.
 
 ghost use Rattle.std.specs.Prelude.{IfOk};
+ghost use Rattle.subst_language.specs.Calls.VariableMap.{ByLookUp};
+ghost use Rattle.subst_c.specs.DocumentNames.{IsNamesResult};
 ghost use Rattle.subst_c.specs.Documents.{IfRefused, IsInvalid, IsRefusal, IsResultOf, Toml};
 ghost use Rattle.subst_c.specs.Pairs.{pair_value};
 
+use super::by_names::{EveryName, names_of};
 use super::{Unfilled, invalid, refused};
 use crate::pairs::TextPairs;
 use std::alloc::{AllocError, Global};
-use subst_toml::{Error, place_in, refusals_in};
+use std::convert::AsStr;
+use subst_language::VariableMap;
+use subst_toml::{Error, place_in, refusals_in, strings};
 
 /// Fills in the strings of a TOML document from pairs, and returns the output.
 ///
@@ -32,6 +37,27 @@ pub fn fill_in(alloc: Global, source: &str, pairs: &TextPairs<'_>) -> Result<Str
     }
 }
 
+/// Returns the names of the variables in the strings of a TOML document, each once, in the order of first
+/// use.
+///
+/// # Errors
+///
+/// If the source isn't TOML, if a string has a fault, or if allocation fails.
+pub fn names(alloc: Global, source: &str) -> Result<Vec<String>, Unfilled>
+    ensures { IsNamesResult Toml source.now result }
+{
+    let list = match strings(alloc, source) {
+        Ok(Some(list)) => list,
+        Err(Error::Toml(e)) => return Err(text_refusal(alloc, source, &e)?),
+        Err(Error::OutOfMemory(e)) => return Err(Unfilled::OutOfMemory(e)),
+        _ => return Err(Unfilled::NotConfirmed),
+    };
+    match names_of(alloc, &list)? {
+        Some(names) => Ok(names),
+        None => Err(first_refusal(alloc, source, &EveryName)?),
+    }
+}
+
 /// Returns the refusal of a text that isn't TOML, with the reader's message.
 ///
 /// # Errors
@@ -50,11 +76,17 @@ fn text_refusal(alloc: Global, source: &str, e: &toml::de::Error) -> Result<Unfi
 /// # Errors
 ///
 /// If allocation fails.
-fn first_refusal(alloc: Global, source: &str, pairs: &TextPairs<'_>) -> Result<Unfilled, AllocError>
-    ensures { IfOk result (λ refusal. IfRefused refusal
-        (IsRefusal Toml (pair_value pairs.now.pairs.pairs.now) source.now)) }
+fn first_refusal<'a, M: VariableMap<'a>>(
+    alloc: Global,
+    source: &str,
+    variables: &'a M,
+) -> Result<Unfilled, AllocError>
+where
+    M::Value: AsStr + Drop,
+    ensures { ByLookUp M.Value.text M.see (M.look_up variables.now) (λ look.
+        IfOk result (λ refusal. IfRefused refusal (IsRefusal Toml look source.now))) }
 {
-    let all = match refusals_in(alloc, source, pairs) {
+    let all = match refusals_in(alloc, source, variables) {
         Ok(Some(all)) => all,
         Err(Error::OutOfMemory(e)) => return Err(e),
         _ => return Ok(Unfilled::NotConfirmed),

@@ -1,13 +1,18 @@
 //! Filling in YAML documents.
 
 ghost use Rattle.std.specs.Prelude.{IfOk};
+ghost use Rattle.subst_language.specs.Calls.VariableMap.{ByLookUp};
+ghost use Rattle.subst_c.specs.DocumentNames.{IsNamesResult};
 ghost use Rattle.subst_c.specs.Documents.{IfRefused, IsInvalid, IsRefusal, IsResultOf, Yaml};
 ghost use Rattle.subst_c.specs.Pairs.{pair_value};
 
+use super::by_names::{EveryName, names_of};
 use super::{Unfilled, invalid, refused};
 use crate::pairs::TextPairs;
 use std::alloc::{AllocError, Global};
-use subst_yaml::{Error, Fault, place_in, refusals_in};
+use std::convert::AsStr;
+use subst_language::VariableMap;
+use subst_yaml::{Error, Fault, place_in, refusals_in, strings};
 
 /// Fills in the values of a YAML document from pairs, and returns the output.
 ///
@@ -30,6 +35,26 @@ pub fn fill_in(alloc: Global, source: &str, pairs: &TextPairs<'_>) -> Result<Str
     }
 }
 
+/// Returns the names of the variables in the values of a YAML document, each once, in the order of first use.
+///
+/// # Errors
+///
+/// If the source isn't YAML, if a value has a fault, or if allocation fails.
+pub fn names(alloc: Global, source: &str) -> Result<Vec<String>, Unfilled>
+    ensures { IsNamesResult Yaml source.now result }
+{
+    let list = match strings(alloc, source) {
+        Ok(list) => list,
+        Err(Error::Yaml(fault)) => return Err(text_refusal(alloc, source, &fault)?),
+        Err(Error::OutOfMemory(e)) => return Err(Unfilled::OutOfMemory(e)),
+        Err(Error::Subst(_)) => return Err(Unfilled::NotConfirmed),
+    };
+    match names_of(alloc, &list)? {
+        Some(names) => Ok(names),
+        None => Err(first_refusal(alloc, source, &EveryName)?),
+    }
+}
+
 /// Returns the refusal of a text that isn't YAML, with the reader's message.
 ///
 /// # Errors
@@ -48,11 +73,17 @@ fn text_refusal(alloc: Global, source: &str, fault: &Fault) -> Result<Unfilled, 
 /// # Errors
 ///
 /// If allocation fails.
-fn first_refusal(alloc: Global, source: &str, pairs: &TextPairs<'_>) -> Result<Unfilled, AllocError>
-    ensures { IfOk result (λ refusal. IfRefused refusal
-        (IsRefusal Yaml (pair_value pairs.now.pairs.pairs.now) source.now)) }
+fn first_refusal<'a, M: VariableMap<'a>>(
+    alloc: Global,
+    source: &str,
+    variables: &'a M,
+) -> Result<Unfilled, AllocError>
+where
+    M::Value: AsStr + Drop,
+    ensures { ByLookUp M.Value.text M.see (M.look_up variables.now) (λ look.
+        IfOk result (λ refusal. IfRefused refusal (IsRefusal Yaml look source.now))) }
 {
-    let all = match refusals_in(alloc, source, pairs) {
+    let all = match refusals_in(alloc, source, variables) {
         Ok(all) => all,
         Err(Error::OutOfMemory(e)) => return Err(e),
         Err(_) => return Ok(Unfilled::NotConfirmed),

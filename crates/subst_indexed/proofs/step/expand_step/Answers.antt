@@ -23,7 +23,10 @@ returns g c =
     same_name _ c.args.cells.now c.args.source.now _ c.in-Some.ensures _ c.walk-outcome.result _ _ _ _
     c.walk-outcome.ensures
     in
-    subst (λ it. StepsTo (λ number. known_at g.V.AsSlot.known c.args.values.now number ≡ None)
-    (Agree g.V.AsSlot.known c.args.values.now) c.args.cells.now c.args.source.now c.walk-outcome.result
-    c.args.cursor.now (record { index = c.walk-outcome.new.at; written = c.walk-outcome.new.output.written })
-    c.args.slice.now it) (search (rules, name)) done
+    record {
+      steps =
+          subst (λ it. StepsTo (λ number. known_at g.V.AsSlot.known c.args.values.now number ≡ None)
+          (Agree g.V.AsSlot.known c.args.values.now) c.args.cells.now c.args.source.now c.walk-outcome.result
+          c.args.cursor.now (record { index = c.walk-outcome.new.at; written = c.walk-outcome.new.output.written })
+          c.args.slice.now it) (search (rules, name)) done;
+    }

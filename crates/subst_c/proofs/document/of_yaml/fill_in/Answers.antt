@@ -4,7 +4,7 @@ use Rattle.subst_language.proofs.CallingLemmas.{same_look_up}
 use Rattle.subst_yaml.proofs.MappedLemmas.{filled_by_map}
 use Rattle.subst_c.specs.Documents.{Yaml, IsFilledIn}
 use Rattle.subst_c.specs.Pairs.{pair_value}
-use Rattle.subst_c.proofs.DocumentLemmas.{refused_text}
+use Rattle.subst_c.proofs.DocumentLemmas.{refused_by_pairs, refused_text}
 use Rattle.subst_c.proofs.document.of_yaml.fill_in.Goals as goal
 use Rattle.subst_c.proofs.document.of_yaml.fill_in.Goals.{in-Yaml+in_ok-text_refusal-in-Yaml, in-Subst+in_ok-first_refusal-in-Subst, in-OutOfMemory}
 
@@ -22,6 +22,9 @@ returns-after-e c = elim c.match-e.branch [
       rw w.result-is
       (refused_text (pair_value c.args.pairs.now.pairs.pairs.now) c.args.source.now w.in-Yaml.fault _
       c.utf8.source (rw w.in-Yaml.is at c.in-Err.ensures.filled.yaml) w.in_ok-text_refusal-in-Yaml.ensures)
-  | in-Subst+in_ok-first_refusal-in-Subst w ↦ search rules
+  | in-Subst+in_ok-first_refusal-in-Subst w ↦
+      rw w.result-is
+      (refused_by_pairs Yaml (pair_value c.args.pairs.now.pairs.pairs.now) c.args.source.now
+      w.in_ok-first_refusal-in-Subst.field-0 (w.in_ok-first_refusal-in-Subst.ensures (λ v. v) (λ v. refl)))
   | in-OutOfMemory w ↦ search rules
 ]

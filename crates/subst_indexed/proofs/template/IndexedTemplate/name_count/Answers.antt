@@ -6,8 +6,10 @@ use Rattle.subst_indexed.specs.Template.{name_cells}
 use Rattle.subst_indexed.proofs.template.IndexedTemplate.name_count.Goals as goal
 
 pub returns : goal.returns
-returns c = λ t spells.
-    let (names, is) = c.self.invariant in
-    c.name_count.ensures ∙ ap (λ cells. length (name_cells cells)) c.deref.ensures.value
-    ∙ names_counted c.self.inside.source.now names c.self.inside.cells.items is t
-    (subst (Spells t) (sym c.self.view_is) spells)
+returns c = record {
+  count = λ t spells.
+      let (names, is) = c.self.invariant in
+      c.name_count.ensures ∙ ap (λ cells. length (name_cells cells)) c.deref.ensures.value
+      ∙ names_counted c.self.inside.source.now names c.self.inside.cells.items is t
+      (subst (Spells t) (sym c.self.view_is) spells);
+}
