@@ -22,7 +22,8 @@ MORE_SOURCE = b'$z0${z19}${z5?}' * 6
 LONG = (50000 * b'$z0', b'$' + 100000 * b'n', 100000 * b'\n' + b'$', 50000 * b'${n:', 20000 * b'${a:' + 20000 * b'}')
 # Templates, documents and texts of other tools, with each of their faults.
 TEXTS = (
-    b'', b'Hello $name!', b'${a?}${b:<${name}>}\\$', b'$name ${a:$b$name}', b'$name ${a:$name', b'$name\\x',
+    b'', b'Hello $name!', b'${a?}${b:<${name}>}\\$', b'${name:$a}${quote}$a${a:${b?}}$b', b'${name?}${a?x',
+    b'$name ${a:$b$name}', b'$name ${a:$name', b'$name\\x',
     b'{ "$name" : "${name}\\u0041","b":[1.50, -0,"\\u0041"],\r\n"c":"$quote"}\n', b'[null , 1E2]', b'"\xc3"',
     b'{"b": ["\\u0041 \\u0024none"], "a": "$x"}', b'"a\\\\x"', b'["$none",\n]',
     b'# $name\r\n"$name" = \'\'\'${name}\'\'\' # $name\r\nb = [ 1_0, "\\u0041" ]\r\nc = "$quote"',

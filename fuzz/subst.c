@@ -6,6 +6,9 @@
  * compilers, there is a main that tries each named file, and counts the calls that were out of memory. texts.h, which
  * tools/faults.py prints, has the beginnings of the texts of faults, by their kinds.
  */
+/* For mmap without a file. */
+#define _DEFAULT_SOURCE
+
 #include "subst.h"
 #include "texts.h"
 
@@ -13,6 +16,7 @@
 #include <stdio.h>
 #include <stdlib.h>
 #include <string.h>
+#include <sys/mman.h>
 #include <unistd.h>
 
 /* More than 16 pairs may be looked up by an index. */
@@ -32,6 +36,16 @@ struct input {
     size_t *ends;
     size_t ends_len;
     struct subst_style style;
+    uint32_t flags;
+    /* a template of the source, or damaged cells, with values by number */
+    const struct subst_cell *cells;
+    size_t cells_len;
+    const struct subst_value *values;
+    size_t values_len;
+    const struct subst_value_row *value_rows;
+    struct subst_fault fault;
+    /* the number of the name at which the getter of subst_bytes_by stops, from 1; 0 for none */
+    size_t stop_at;
     /* a length of a buffer to try besides those of the answer */
     size_t buffer_len;
 };
@@ -49,6 +63,7 @@ struct answer {
 
 static const struct answer NOTHING = {SUBST_DONE, 0, {UNTOLD, UNTOLD, UNTOLD}, UNTOLD, NULL, NULL};
 static const struct answer NO_TEXT = {SUBST_NOT_UTF8, 0, {UNTOLD, UNTOLD, UNTOLD}, UNTOLD, NULL, NULL};
+static const struct answer NO_STYLE = {SUBST_NO_SUCH_STYLE, 0, {UNTOLD, UNTOLD, UNTOLD}, UNTOLD, NULL, NULL};
 
 /* The items of an answer as variables. */
 #define VARIABLES(answer) ((const struct subst_variable *)(const void *)(answer)->items)
@@ -196,6 +211,7 @@ static void expect_within(const struct input *input, const struct subst_fault *f
         EXPECT(first == '$' && fault->length <= 2);
         break;
     case SUBST_UNEXPECTED_CHARACTER:
+    case SUBST_UNEXPECTED_AFTER_NAME:
         EXPECT(fault->position > 2 && first != '}');
         break;
     case SUBST_MISSING_CLOSING_BRACE:
@@ -215,7 +231,8 @@ static void expect_within(const struct input *input, const struct subst_fault *f
 struct call {
     uint32_t (*make)(const struct input *input, void *buffer, size_t buffer_len, struct answer *told);
     size_t item;
-    /* whether it writes straight into the buffer, which is then unspecified without SUBST_DONE */
+    /* 1 if it writes straight into the buffer, which is then unspecified without SUBST_DONE, unless the source is no
+     * template; 2 if it is unspecified then too */
     int is_straight;
 };
 
@@ -229,6 +246,9 @@ struct call {
 #define PAIRS input->pairs, input->pairs_len
 #define ROWS input->rows, input->rows_len
 #define ENDS input->ends, input->ends_len
+#define CELLS input->cells, input->cells_len
+#define VALUES input->values, input->values_len
+#define VALUE_ROWS input->value_rows, input->rows_len
 
 CALL(bytes, uint8_t, 0, SOURCE, PAIRS, buffer, buffer_len, &told->needed, &told->fault)
 CALL(text, uint8_t, 0, SOURCE, PAIRS, buffer, buffer_len, &told->needed, &told->fault)
@@ -249,6 +269,12 @@ CALL(from_envsubst, uint8_t, 0, SOURCE, SUBST_OPTIONAL, buffer, buffer_len, &tol
 CALL(with_only, uint8_t, 0, SOURCE, PAIRS, SUBST_REQUIRED, buffer, buffer_len, &told->needed)
 CALL(from_shell, uint8_t, 0, SOURCE, buffer, buffer_len, &told->needed, &told->fault.kind, &told->fault.position)
 CALL(shell_form_text, uint8_t, 0, (uint32_t)input->buffer_len, buffer, buffer_len, &told->needed)
+CALL(parse, struct subst_cell, 0, SOURCE, input->flags, buffer, buffer_len, &told->needed, &told->fault)
+CALL(expand, uint8_t, 2, CELLS, SOURCE, VALUES, buffer, buffer_len, &told->needed, &told->fault)
+CALL(expand_each, uint8_t, 2, CELLS, SOURCE, VALUE_ROWS, buffer, buffer_len, ENDS, &told->needed, &told->row,
+     &told->fault)
+CALL(error_text, uint8_t, 0, SOURCE, &input->fault, buffer, buffer_len, &told->needed)
+CALL(error_highlighting, uint8_t, 0, SOURCE, &input->fault, buffer, buffer_len, &told->needed)
 
 /* The report of the last call by a style, and its value if nothing is reported. */
 static struct subst_style_fault reported;
@@ -309,7 +335,8 @@ static struct answer asked(const struct call *call, const struct input *input, s
     EXPECT(told.result == SUBST_REFUSED || (IS_SAME(&told.fault, &NOTHING.fault) && told.row == UNTOLD));
     if (told.result == SUBST_DONE)
         written = told.needed * call->item;
-    else if (call->is_straight && (told.result == SUBST_ROOM_TOO_SMALL || is_template(&told)))
+    else if (call->is_straight == 2
+             || (call->is_straight && (told.result == SUBST_ROOM_TOO_SMALL || is_template(&told))))
         written = size;
     EXPECT(written <= size && is_untouched(told.block, written, size));
     if (told.result != SUBST_DONE && told.result != SUBST_ROOM_TOO_SMALL) {
@@ -322,8 +349,8 @@ static struct answer asked(const struct call *call, const struct input *input, s
 static int has_items_of(const struct answer *told, const struct answer *wanted, size_t item)
 {
     size_t i;
-    if (item == 1)
-        return wanted->needed == 0 || memcmp(told->items, wanted->items, wanted->needed) == 0;
+    if (item != sizeof(struct subst_variable))
+        return wanted->needed == 0 || memcmp(told->items, wanted->items, wanted->needed * item) == 0;
     for (i = 0; i < wanted->needed; i++)
         if (!IS_SAME(VARIABLES(told) + i, VARIABLES(wanted) + i))
             return 0;
@@ -543,7 +570,6 @@ static void try_style(const struct input *input)
 /* Tries all forms with all choices of names; the first half of the pairs are the names. Other numbers are refused. */
 static void try_styles(const struct input *given)
 {
-    static const struct answer NO_STYLE = {SUBST_NO_SUCH_STYLE, 0, {UNTOLD, UNTOLD, UNTOLD}, UNTOLD, NULL, NULL};
     struct input input = *given;
     const struct subst_style first = {0, 0, 0, input.pairs, input.pairs_len / 2};
     for (input.style = first; input.style.forms <= SUBST_FORMS_COMMON; input.style.forms++)
@@ -609,8 +635,8 @@ static struct answer answer_of_rows(const struct input *input, const struct answ
     return all;
 }
 
-static void expect_rows(const struct input *rows, const struct answer *wanted, const size_t *ends, size_t buffer_len,
-                        size_t ends_len)
+static void expect_rows(const struct call *call, const struct input *rows, const struct answer *wanted,
+                        const size_t *ends, size_t buffer_len, size_t ends_len)
 {
     struct input input = *rows;
     struct answer all = *wanted;
@@ -620,16 +646,31 @@ static void expect_rows(const struct input *rows, const struct answer *wanted, c
     input.ends_len = ends_len;
     if (all.result == SUBST_DONE && size < written)
         all.result = SUBST_ROOM_TOO_SMALL;
-    if (expect(&call_bytes_each, &input, &all, buffer_len) != SUBST_DONE)
-        written = 0;
-    EXPECT(memcmp(input.ends, ends, written) == 0 && is_untouched(block, written, size));
+    if (expect(call, &input, &all, buffer_len) == SUBST_DONE)
+        EXPECT(written == 0 || memcmp(input.ends, ends, written) == 0);
+    else
+        written = call->is_straight ? size : 0;
+    EXPECT(is_untouched(block, written, size));
     free(block);
+}
+
+/* Makes a call for rows in buffers and with ends of each length. */
+static void expect_rows_in_buffers(const struct call *call, const struct input *input, const struct answer *all,
+                                   const size_t *ends)
+{
+    size_t lengths[ROOMS], i;
+    buffers_for(lengths, input, all->needed);
+    for (i = 0; i < ROOMS; i++)
+        expect_rows(call, input, all, ends, lengths[i], input->rows_len);
+    expect_rows(call, input, all, ends, all->needed, input->rows_len + 1);
+    if (input->rows_len > 0)
+        expect_rows(call, input, all, ends, all->needed, input->rows_len - 1);
 }
 
 /* Tries no row, one, and one for each number of pairs left out in front, in buffers and with ends of each length. */
 static void try_rows(const struct input *given, const struct answer *answer)
 {
-    size_t counts[] = {0, 1, given->pairs_len + 1}, lengths[ROOMS], ends[MOST_PAIRS + 1], i, j;
+    size_t counts[] = {0, 1, given->pairs_len + 1}, ends[MOST_PAIRS + 1], i;
     struct subst_row rows[MOST_PAIRS + 1];
     struct input input = *given;
     input.rows = rows;
@@ -641,12 +682,7 @@ static void try_rows(const struct input *given, const struct answer *answer)
         struct answer all;
         input.rows_len = counts[i];
         all = answer_of_rows(&input, answer, ends);
-        buffers_for(lengths, &input, all.needed);
-        for (j = 0; j < ROOMS; j++)
-            expect_rows(&input, &all, ends, lengths[j], input.rows_len);
-        expect_rows(&input, &all, ends, all.needed, input.rows_len + 1);
-        if (input.rows_len > 0)
-            expect_rows(&input, &all, ends, all.needed, input.rows_len - 1);
+        expect_rows_in_buffers(&call_bytes_each, &input, &all, ends);
         free(all.block);
     }
 }
@@ -818,6 +854,434 @@ static void try_place(const struct input *input, const struct answer *answer)
     }
 }
 
+/* Templates that the caller keeps */
+
+/* The state of random numbers, which depend on the input alone. */
+static uint32_t random_state;
+
+static uint32_t some(uint32_t below)
+{
+    random_state = random_state * 1664525u + 1013904223u;
+    return (random_state >> 8) % below;
+}
+
+/* Finds the next variable that the output of a template needs, from an index on. */
+static int next_need(const struct input *input, size_t *at, struct subst_variable *need)
+{
+    const uint8_t *source = input->source;
+    size_t after, depth = 1;
+    while (*at < input->source_len && source[*at] != '$')
+        *at += 1 + (source[*at] == '\\');
+    if (*at >= input->source_len)
+        return 0;
+    need->position = after = *at + 1 + (source[*at + 1] == '{');
+    while (after < input->source_len && is_name_byte(source[after]))
+        after += 1;
+    need->length = after - need->position;
+    *at = after;
+    if (source[need->position - 1] == '{' && source[after] == ':'
+        && pair_of(input, need->position, need->length) != NULL)
+        for (*at += 1; depth > 0; *at += 1 + (source[*at] == '\\'))
+            depth = depth + (source[*at] == '{') - (source[*at] == '}');
+    return 1;
+}
+
+static int is_same_name(const struct input *input, const struct subst_variable *a, const struct subst_variable *b)
+{
+    return a->length == b->length && memcmp(input->source + a->position, input->source + b->position, a->length) == 0;
+}
+
+/* Finds the next needed variable whose name isn't needed before. */
+static int next_name(const struct input *input, size_t *at, struct subst_variable *name)
+{
+    struct subst_variable other;
+    while (next_need(input, at, name)) {
+        size_t before = 0;
+        while (next_need(input, &before, &other) && !is_same_name(input, &other, name))
+            continue;
+        if (other.position == name->position)
+            return 1;
+    }
+    return 0;
+}
+
+/* Returns the value of a pair, or none for NULL. */
+static struct subst_value value_of(const struct subst_pair *pair)
+{
+    struct subst_value value = {NULL, 1, SUBST_UNSET};
+    if (pair != NULL) {
+        value.bytes = pair->value;
+        value.length = pair->value_len;
+        value.given = SUBST_SET;
+    }
+    return value;
+}
+
+/* The context of a getter: the index up to which names were asked for, and their number. */
+struct asking {
+    const struct input *input;
+    size_t at, count;
+};
+
+/* Gets values of the pairs. Fails unless it is asked for the names that are needed, in order. The first time it calls
+ * the library, with a getter that counts from 1. */
+static int get(void *context, const char *name, size_t name_len, struct subst_value *value)
+{
+    struct asking *asking = context, inner = {asking->input, 0, 1};
+    const struct input *input = asking->input;
+    struct subst_variable need;
+    struct subst_fault fault;
+    size_t needed;
+    EXPECT(next_name(input, &asking->at, &need) && name_len == need.length && value->given == SUBST_UNSET);
+    EXPECT(memcmp(name, input->source + need.position, name_len) == 0);
+    if (asking->count++ == 0)
+        EXPECT(subst_bytes_by(SOURCE, get, &inner, NULL, 0, &needed, &fault) != SUBST_NOT_A_TEMPLATE);
+    *value = value_of(pair_of(input, need.position, need.length));
+    if (value->given == SUBST_UNSET && asking->count % 2 == 0)
+        value->given = SUBST_NOT_ASKED;
+    return asking->count == input->stop_at ? -1 : 0;
+}
+
+/* Fails unless the getter was asked for all names that are needed, up to a missing one. */
+static uint32_t make_bytes_by(const struct input *input, void *buffer, size_t buffer_len, struct answer *told)
+{
+    struct asking asking = {input, 0, 0};
+    struct subst_variable need;
+    uint32_t result = subst_bytes_by(SOURCE, get, &asking, buffer, buffer_len, &told->needed, &told->fault);
+    if (result == SUBST_DONE || result == SUBST_ROOM_TOO_SMALL)
+        EXPECT(!next_name(input, &asking.at, &need));
+    else if (result == SUBST_REFUSED && told->fault.kind == SUBST_NO_SUCH_VARIABLE)
+        EXPECT(!next_name(input, &asking.at, &need) || need.position > told->fault.position);
+    else
+        EXPECT(asking.count == (result == SUBST_STOPPED ? input->stop_at : 0));
+    return result;
+}
+
+/* Expands with each value once it is asked for. Fails if one is asked for twice. */
+static uint32_t make_steps(const struct input *input, void *buffer, size_t buffer_len, struct answer *told)
+{
+    struct subst_value *values = (void *)copy_of(input->values, input->values_len * sizeof values[0]);
+    struct subst_cursor cursor = {0, 0};
+    size_t number = UNTOLD, i;
+    uint32_t result;
+    for (i = 0; i < input->values_len; i++)
+        values[i].given = SUBST_NOT_ASKED;
+    while ((result = subst_expand_step(CELLS, SOURCE, values, input->values_len, &cursor, buffer, buffer_len, &number,
+                                       &told->fault)) == SUBST_ASKS) {
+        EXPECT(number < input->values_len && values[number].given == SUBST_NOT_ASKED);
+        values[number] = input->values[number];
+        number = UNTOLD;
+    }
+    EXPECT(number == UNTOLD);
+    if (result == SUBST_DONE || result == SUBST_ROOM_TOO_SMALL) {
+        EXPECT((cursor.written > buffer_len) == (result == SUBST_ROOM_TOO_SMALL));
+        told->needed = cursor.written;
+    }
+    free(values);
+    return result;
+}
+
+/* Copies the cells into a buffer, as subst_parse does. */
+static uint32_t make_template_new(const struct input *input, void *buffer, size_t buffer_len, struct answer *told)
+{
+    struct subst_cell *cells = NULL;
+    size_t cells_len = UNTOLD;
+    uint32_t result = subst_template_new(SOURCE, input->flags, &cells, &cells_len, &told->fault);
+    EXPECT((result == SUBST_DONE) == (cells != NULL) && (result == SUBST_DONE || cells_len == UNTOLD));
+    if (result == SUBST_DONE)
+        told->needed = cells_len;
+    if (result == SUBST_DONE && cells_len <= buffer_len)
+        memcpy(buffer, cells, cells_len * sizeof cells[0]);
+    else if (result == SUBST_DONE)
+        result = SUBST_ROOM_TOO_SMALL;
+    free(cells);
+    return result;
+}
+
+static const struct call call_bytes_by = {make_bytes_by, 1, 2}, call_steps = {make_steps, 1, 2},
+                         call_template_new = {make_template_new, sizeof(struct subst_cell), 0};
+
+/* Fails unless the variables of a template are those of the list, each at its first use. Writes their values by the
+ * pairs, and returns their number. */
+static size_t number_variables(const struct input *input, const struct answer *list, struct subst_value *values)
+{
+    struct subst_variable use = {UNTOLD, UNTOLD, UNTOLD};
+    size_t count = 0, i, j;
+    for (i = 0; i < list->needed; i++) {
+        const struct subst_variable *variable = VARIABLES(list) + i;
+        for (j = 0; j < count; j++)
+            if (subst_template_variable(CELLS, SOURCE, j, &use) != SUBST_DONE || is_same_name(input, &use, variable))
+                break;
+        if (j < count)
+            continue;
+        EXPECT(subst_template_variable(CELLS, SOURCE, count, &use) == SUBST_DONE && IS_SAME(&use, variable));
+        values[count++] = value_of(pair_of(input, variable->position, variable->length));
+    }
+    use.position = UNTOLD;
+    EXPECT(subst_template_variables(CELLS) == count);
+    EXPECT(subst_template_variable(CELLS, SOURCE, count, &use) == SUBST_NOT_A_TEMPLATE && use.position == UNTOLD);
+    EXPECT(subst_template_variable(CELLS, SOURCE, SIZE_MAX, &use) == SUBST_NOT_A_TEMPLATE && use.position == UNTOLD);
+    return count;
+}
+
+/* Fails unless values are the same as pairs, alone and in rows, and a value past their end is the same as none. */
+static void try_values(const struct input *given, const struct answer *answer, struct subst_value *values)
+{
+    static const struct answer ASKS = {SUBST_ASKS, 0, {UNTOLD, UNTOLD, UNTOLD}, UNTOLD, NULL, NULL};
+    const struct subst_value_row value_rows[] = {{values, given->values_len}, {values, given->values_len}, {NULL, 0}};
+    const struct subst_row rows[] = {{given->pairs, given->pairs_len}, {given->pairs, given->pairs_len}, {NULL, 0}};
+    const size_t half = given->values_len / 2;
+    struct input input = *given;
+    struct subst_variable need;
+    struct answer answers;
+    size_t ends[3], i, at = 0;
+    expect_in_buffers(&call_expand, &input, answer);
+    expect_in_buffers(&call_steps, &input, answer);
+    input.rows = rows;
+    input.value_rows = value_rows;
+    for (input.rows_len = 0; input.rows_len <= 3; input.rows_len += 3) {
+        answers = answer_of_rows(&input, answer, ends);
+        expect_rows_in_buffers(&call_expand_each, &input, &answers, ends);
+        free(answers.block);
+    }
+    input.values_len = half;
+    answers = asked(&call_expand, &input, answer->needed + input.source_len);
+    for (i = half; i < given->values_len; i++)
+        values[i].given = SUBST_UNSET;
+    input.values_len = given->values_len;
+    expect(&call_expand, &input, &answers, answer->needed + input.source_len);
+    expect(&call_steps, &input, &answers, answer->needed + input.source_len);
+    for (i = 0; i < half; i++)
+        values[i].given = SUBST_NOT_ASKED;
+    expect(&call_expand, &input, half > 0 && next_need(given, &at, &need) ? &ASKS : &answers, answers.needed);
+    free(answers.block);
+}
+
+/* Fails unless a parse without optional variables refuses the question mark after a name in braces as any other
+ * character there. */
+static void try_no_optional(const struct input *given, const struct answer *cells, const struct answer *variables)
+{
+    const struct subst_variable *variable = VARIABLES(variables), *end = variable + variables->needed;
+    struct answer wanted = *cells;
+    struct input input = *given;
+    uint8_t *source = copy_of(given->source, given->source_len);
+    size_t i;
+    for (i = 0; i < input.source_len; i++)
+        if (source[i] == '?')
+            source[i] = '!';
+    wanted.fault = NOTHING.fault;
+    wanted.result = checked(source, input.source_len, &wanted.fault);
+    if (wanted.fault.kind == SUBST_UNEXPECTED_CHARACTER)
+        wanted.fault.kind = SUBST_UNEXPECTED_AFTER_NAME;
+    while (variable < end && variable->kind != SUBST_OPTIONAL)
+        variable += 1;
+    if (variable < end)
+        EXPECT(wanted.fault.position == variable->position + variable->length);
+    else
+        EXPECT(wanted.result == cells->result || cells->result == SUBST_REFUSED);
+    wanted.needed = wanted.result == SUBST_DONE ? cells->needed : 0;
+    input.flags = SUBST_NO_OPTIONAL;
+    expect_in_buffers(&call_parse, &input, &wanted);
+    expect(&call_template_new, &input, &wanted, wanted.needed);
+    input.flags = SUBST_NO_OPTIONAL + 1 + some(5);
+    expect(&call_parse, &input, &NO_STYLE, input.buffer_len);
+    free(source);
+}
+
+/* Memory between pages that can't be touched, for each argument of an expansion. */
+enum { AREAS = 4, AREA = 1 << 16, PAGE = 1 << 12 };
+
+/* Copies bytes to the beginning or to the end of an area. */
+static void *placed(size_t number, const void *bytes, size_t length, int is_at_end)
+{
+    static uint8_t *areas;
+    uint8_t *place;
+    size_t i;
+    if (areas == NULL) {
+        areas = mmap(NULL, AREAS * (AREA + PAGE) + PAGE, PROT_NONE, MAP_PRIVATE | MAP_ANONYMOUS, -1, 0);
+        for (i = 0; i < AREAS; i++)
+            if (areas == MAP_FAILED || mprotect(areas + i * (AREA + PAGE) + PAGE, AREA, PROT_READ | PROT_WRITE) != 0)
+                exit(EXIT_FAILURE);
+    }
+    place = areas + number * (AREA + PAGE) + PAGE + (is_at_end ? AREA - length : 0);
+    return length > 0 ? memcpy(place, bytes, length) : place;
+}
+
+/* Fails unless an output has only bytes of the source, of values and of cells. */
+static void expect_made_of(const struct input *input, const struct answer *answer)
+{
+    uint8_t known[256] = {0};
+    size_t i, j;
+    for (i = 0; i < input->source_len; i++)
+        known[input->source[i]] = 1;
+    for (i = 0; i < input->values_len; i++)
+        for (j = 0; input->values[i].given == SUBST_SET && j < input->values[i].length; j++)
+            known[((const uint8_t *)input->values[i].bytes)[j]] = 1;
+    for (i = 0; i < input->cells_len; i++)
+        known[input->cells[i].first & 255] |= input->cells[i].first < 256;
+    for (i = 0; i < answer->needed; i++)
+        EXPECT(known[answer->items[i]]);
+}
+
+/* Fails unless an expansion of any cells has an answer that it may have, and stays within its arguments, also from any
+ * cursor. Returns the result. */
+static uint32_t expect_harmless(const struct input *given, int is_at_end)
+{
+    struct input placed_input = *given;
+    const struct input *input = &placed_input;
+    struct answer none, answer, other = NOTHING;
+    struct subst_cursor cursor = {some(9), (size_t)some(9) - some(3)};
+    struct subst_value_row row;
+    struct subst_variable use;
+    size_t number, length;
+    placed_input.cells = placed(0, given->cells, given->cells_len * sizeof given->cells[0], is_at_end);
+    placed_input.source = placed(1, given->source, given->source_len, is_at_end);
+    row.values = placed(2, given->values, given->values_len * sizeof given->values[0], is_at_end);
+    placed_input.values = row.values;
+    row.values_len = given->values_len;
+    placed_input.value_rows = &row;
+    placed_input.rows_len = 1;
+    none = asked(&call_expand, input, 0);
+    free(none.block);
+    if (none.needed > AREA)
+        return none.result;
+    answer = asked(&call_expand, input, none.needed);
+    EXPECT(answer.result == SUBST_DONE || answer.result == SUBST_NOT_A_TEMPLATE || answer.result == SUBST_REFUSED);
+    if (answer.result == SUBST_REFUSED)
+        EXPECT(answer.fault.kind == SUBST_NO_SUCH_VARIABLE && answer.fault.position <= input->source_len
+               && answer.fault.length <= input->source_len - answer.fault.position);
+    expect_made_of(input, &answer);
+    expect_in_buffers(&call_expand, input, &answer);
+    expect_in_buffers(&call_steps, input, &answer);
+    for (length = answer.needed; length + 2 > answer.needed && length <= answer.needed; length--)
+        call_expand.make(input, placed(3, answer.items, length, is_at_end), length, &other);
+    subst_expand_step(CELLS, SOURCE, VALUES, &cursor, placed(3, answer.items, answer.needed, is_at_end), answer.needed,
+                      &number, &other.fault);
+    for (number = 0; number < 9; number++)
+        if (subst_template_variable(CELLS, SOURCE, number, &use) == SUBST_DONE)
+            EXPECT(use.position <= input->source_len && use.length <= input->source_len - use.position);
+    answer.row = answer.result == SUBST_REFUSED ? 0 : UNTOLD;
+    expect_rows(&call_expand_each, input, &answer, &answer.needed, answer.needed, 1);
+    free(answer.block);
+    return answer.result;
+}
+
+/* Makes a template's head and its check sum right, so that the cells are expanded. */
+static void seal(struct subst_cell *cells, size_t cells_len, uint32_t length)
+{
+    const struct subst_cell *end = cells + cells_len, *cell;
+    const struct subst_cell head = {0x01425553, length, cells->second, cells->second};
+    *cells = head;
+    for (cell = cells + 1; cell < end; cell++)
+        cells->number += cell->kind + cell->first + cell->second + cell->number;
+}
+
+/* Tries a template over other sources, cut, with other numbers, and random cells. Without a new check sum, a source of
+ * another length and another number are seen. */
+static void try_damaged(const struct input *given)
+{
+    const size_t size = given->cells_len * sizeof given->cells[0];
+    const uint32_t length = (uint32_t)given->source_len, numbers_len = (uint32_t)(4 * given->cells_len);
+    int round;
+    if (size > AREA || length > AREA || given->values_len * sizeof given->values[0] > AREA)
+        return;
+    for (round = 0; round < 8; round++) {
+        struct input input = *given;
+        struct subst_cell *cells = (void *)copy_of(given->cells, size);
+        uint8_t *source = copy_of(given->source, length);
+        uint32_t *numbers = &cells->kind, changes = round < 2 ? (uint32_t)round : some(4), i, at, result;
+        input.cells = cells;
+        input.source = source;
+        input.source_len -= round == 0 && length > 0;
+        input.cells_len -= round == 2 ? some((uint32_t)input.cells_len) : 0;
+        for (i = 0; i < length && round == 3; i++)
+            source[i] = given->source[some(length)];
+        for (i = 4; i < numbers_len && round == 4; i++)
+            numbers[i] = i % 4 == 0 ? some(6) : some(length + 2);
+        for (i = 0; i < changes; i++) {
+            at = some(numbers_len);
+            numbers[at] = some(2) ? some(length + 2) : numbers[at] ^ ((uint32_t)1 << some(32));
+        }
+        if (round > 1)
+            seal(cells, input.cells_len, length);
+        result = expect_harmless(&input, (int)some(2));
+        if (round < 2 && (input.source_len < length || memcmp(cells, given->cells, size) != 0))
+            EXPECT(result == SUBST_NOT_A_TEMPLATE);
+        free(cells);
+        free(source);
+    }
+}
+
+/* Fails unless the fault of a call with pairs has the same text and lines alone, and one that may be in no source has
+ * those that it may have. */
+static void try_error(const struct input *given, const struct answer *answer)
+{
+    const struct subst_fault other = {some(11), some((uint32_t)given->source_len + 2), some(5) - (size_t)some(2)};
+    const size_t end = other.position + other.length;
+    struct answer text = answer_of(&call_fault_text, given), lines = answer_of(&call_fault_highlighting, given);
+    struct input input = *given;
+    input.fault = answer->fault;
+    if (answer->result == SUBST_REFUSED) {
+        expect_in_buffers(&call_error_text, &input, &text);
+        expect_in_buffers(&call_error_highlighting, &input, &lines);
+    }
+    free(text.block);
+    free(lines.block);
+    input.fault = other;
+    text = held(&call_error_text, &input);
+    lines = held(&call_error_highlighting, &input);
+    EXPECT(text.result == SUBST_DONE && is_utf8(text.items, text.needed));
+    if (text.needed > 0)
+        EXPECT(end >= other.position && end <= input.source_len
+               && (other.kind - 1 < SUBST_NO_SUCH_VARIABLE || other.kind == SUBST_UNEXPECTED_AFTER_NAME));
+    if (!is_utf8(input.source, input.source_len))
+        EXPECT(lines.result == SUBST_NOT_UTF8);
+    else if (end < other.position || end > input.source_len || !is_utf8(input.source, other.position)
+             || !is_utf8(input.source, end))
+        EXPECT(lines.result == SUBST_NOT_A_BOUNDARY);
+    else
+        EXPECT(lines.result == SUBST_DONE);
+    if (lines.needed > 0)
+        expect_underlined(&lines);
+    free(text.block);
+    free(lines.block);
+}
+
+/* Fails unless a parse and an expansion have the answer of one call. */
+static void try_templates(const struct input *given, const struct answer *answer)
+{
+    static const struct answer STOPPED = {SUBST_STOPPED, 0, {UNTOLD, UNTOLD, UNTOLD}, UNTOLD, NULL, NULL};
+    struct input input = *given;
+    struct answer cells = held(&call_parse, &input), variables = answer_of(&call_variables, &input);
+    struct subst_value *values = taken(cells.needed * sizeof values[0]);
+    struct subst_variable name;
+    size_t at;
+    random_state = (uint32_t)tried_len;
+    for (at = 0; at < tried_len; at++)
+        random_state = (random_state ^ tried[at]) * 16777619u;
+    EXPECT(is_template(answer) ? cells.result == SUBST_DONE && cells.needed <= input.source_len + 1
+                               : cells.result == SUBST_REFUSED && IS_SAME(&cells.fault, &answer->fault));
+    expect_in_buffers(&call_template_new, &input, &cells);
+    expect_in_buffers(&call_bytes_by, &input, answer);
+    try_no_optional(&input, &cells, &variables);
+    try_error(&input, answer);
+    if (is_template(answer)) {
+        input.cells = (void *)cells.items;
+        input.cells_len = cells.needed;
+        input.values = values;
+        input.values_len = number_variables(&input, &variables, values);
+        try_damaged(&input);
+        try_values(&input, answer, values);
+        at = 0;
+        input.stop_at = 1;
+        if (next_name(&input, &at, &name))
+            expect(&call_bytes_by, &input, &STOPPED, answer->needed);
+    }
+    free(values);
+    free(cells.block);
+    free(variables.block);
+}
+
 /* Inputs */
 
 /* Reads an input: numbers of one byte, 0 if none is left, and then this many bytes for each word, or as many as are
@@ -907,6 +1371,7 @@ int LLVMFuzzerTestOneInput(const uint8_t *data, size_t size)
     try_document(&call_json, &call_json_fault_text, &input);
     try_document(&call_toml, &call_toml_fault_text, &input);
     try_document(&call_yaml, &call_yaml_fault_text, &input);
+    try_templates(&input, &answer);
     free(answer.block);
     end_input(&input, data + size);
     return 0;

@@ -106,6 +106,69 @@ static void test_yaml(void)
     EXPECT(subst_yaml("\xC3", 1, NULL, 0, buffer, ROOM, &needed, &fault) == SUBST_NOT_UTF8);
 }
 
+/* Gets the value of $a, and none of any other name. */
+static int get_a(void *context, const char *name, size_t name_len, struct subst_value *value)
+{
+    const struct subst_value one = {"1", 1, SUBST_SET};
+    *(int *)context += 1;
+    if (name_len == 1 && *name == 'a')
+        *value = one;
+    return name_len > 4;
+}
+
+static void test_templates(void)
+{
+    const struct subst_value value = {"1", 1, SUBST_SET}, none = {NULL, 1, SUBST_UNSET};
+    const struct subst_value_row row = {NULL, 0};
+    struct subst_cell cells[ROOM], *list = NULL;
+    struct subst_cursor cursor = {0, 0};
+    struct subst_fault fault = {0, 0, 0};
+    struct subst_variable use = {0, 0, 0};
+    size_t needed = ROOM, count, end = ROOM, number = ROOM, index;
+    char buffer[ROOM];
+    EXPECT(subst_parse(NULL, 0, 0, NULL, 0, &needed, &fault) == SUBST_ROOM_TOO_SMALL && needed == 1);
+    EXPECT(subst_parse(NULL, 0, 0, cells, 1, &needed, &fault) == SUBST_DONE && needed == 1);
+    EXPECT(subst_template_variables(cells, 1) == 0 && subst_template_variables(NULL, 0) == 0);
+    EXPECT(is_empty(subst_expand(cells, 1, NULL, 0, NULL, 0, NULL, 0, &needed, &fault), &needed));
+    EXPECT(subst_expand_step(cells, 1, NULL, 0, NULL, 0, &cursor, NULL, 0, &number, &fault) == SUBST_DONE);
+    EXPECT(is_empty(subst_expand_each(cells, 1, NULL, 0, NULL, 0, NULL, 0, NULL, 0, &needed, &index, &fault), &needed));
+    EXPECT(is_empty(subst_expand_each(cells, 1, NULL, 0, &row, 1, NULL, 0, &end, 1, &needed, &index, &fault), &needed)
+           && end == 0);
+    EXPECT(subst_template_variable(NULL, 0, NULL, 0, 0, &use) == SUBST_NOT_A_TEMPLATE);
+    EXPECT(subst_expand(NULL, 0, NULL, 0, NULL, 0, NULL, 0, &needed, &fault) == SUBST_NOT_A_TEMPLATE);
+    EXPECT(subst_expand_step(NULL, 0, NULL, 0, NULL, 0, &cursor, NULL, 0, &number, &fault) == SUBST_NOT_A_TEMPLATE);
+    EXPECT(subst_template_new("<${a?}$b>", 9, 0, &list, &count, &fault) == SUBST_DONE && count <= 10);
+    EXPECT(subst_template_variables(list, count) == 2);
+    EXPECT(subst_template_variable(list, count, "<${a?}$b>", 9, 1, &use) == SUBST_DONE && use.position == 7);
+    EXPECT(subst_expand(list, count, "<${a?}$b>", 9, &value, 1, buffer, ROOM, &needed, &fault) == SUBST_REFUSED
+           && fault.kind == SUBST_NO_SUCH_VARIABLE && fault.position == 7 && fault.length == 1);
+    EXPECT(subst_expand(list, count, "<${a?}$b>", 9, &none, 1, NULL, 0, &needed, &fault) == SUBST_REFUSED);
+    free(list);
+    EXPECT(subst_template_new(NULL, 0, 0, &list, &count, &fault) == SUBST_DONE && count == 1);
+    free(list);
+}
+
+static void test_getters_and_errors(void)
+{
+    struct subst_fault fault = {0, 0, 0};
+    size_t needed = ROOM;
+    int calls = 0;
+    char buffer[ROOM];
+    EXPECT(is_empty(subst_bytes_by(NULL, 0, get_a, NULL, NULL, 0, &needed, &fault), &needed));
+    EXPECT(subst_bytes_by("$a${b:${a}${b?}}", 16, get_a, &calls, buffer, 2, &needed, &fault) == SUBST_DONE
+           && needed == 2 && memcmp(buffer, "11", 2) == 0 && calls == 2);
+    EXPECT(subst_bytes_by("$a${b:-}", 8, get_a, &calls, NULL, 0, &needed, &fault) == SUBST_ROOM_TOO_SMALL
+           && needed == 2);
+    EXPECT(subst_bytes_by("$names", 6, get_a, &calls, NULL, 0, &needed, &fault) == SUBST_STOPPED);
+    EXPECT(subst_bytes_by("$b", 2, get_a, &calls, NULL, 0, &needed, &fault) == SUBST_REFUSED && fault.position == 1);
+    EXPECT(is_empty(subst_error_text(NULL, 0, &fault, NULL, 0, &needed), &needed));
+    EXPECT(subst_error_highlighting(NULL, 0, &fault, NULL, 0, &needed) == SUBST_NOT_A_BOUNDARY);
+    EXPECT(subst_parse("${a?}", 5, SUBST_NO_OPTIONAL, NULL, 0, &needed, &fault) == SUBST_REFUSED
+           && fault.kind == SUBST_UNEXPECTED_AFTER_NAME && fault.position == 3 && fault.length == 1);
+    EXPECT(subst_error_text("${a?}", 5, &fault, buffer, ROOM, &needed) == SUBST_DONE && needed > 15
+           && memcmp(buffer + needed - 15, " or colon (':')", 15) == 0);
+}
+
 /* Any number but 0 makes variables optional. No form has the largest number. */
 static void test_other_tools(void)
 {
@@ -168,6 +231,35 @@ static void test_styles(void)
     EXPECT(subst_text_by_style("\xC3$a", 3, &shell, NULL, 0, buffer, ROOM, &needed, &fault) == SUBST_NOT_UTF8);
 }
 
+/* Parses a source, and expands its cells once, by the steps and for two rows. Only the parse takes memory. */
+static uint32_t expanded(const char *source, const struct subst_pair *pairs, size_t pairs_len)
+{
+    struct subst_cell cells[MOST_PAIRS];
+    struct subst_value values[MOST_PAIRS];
+    struct subst_value_row rows[2];
+    struct subst_cursor cursor = {0, 0};
+    struct subst_fault fault;
+    size_t length = strlen(source), needed, count, ends[2], index, i;
+    char buffer[ROOM];
+    uint32_t result = subst_parse(source, length, 0, cells, MOST_PAIRS, &count, &fault);
+    if (result != SUBST_DONE)
+        return result;
+    for (i = 0; i < pairs_len; i++) {
+        const struct subst_value value = {pairs[i].value, pairs[i].value_len, SUBST_SET};
+        values[i] = value;
+    }
+    rows[0].values = rows[1].values = values;
+    rows[0].values_len = rows[1].values_len = pairs_len;
+    result = subst_expand(cells, count, source, length, values, pairs_len, buffer, ROOM, &needed, &fault);
+    if (subst_expand_step(cells, count, source, length, values, pairs_len, &cursor, buffer, ROOM, &index, &fault)
+        != result)
+        return UINT32_MAX;
+    if (subst_expand_each(cells, count, source, length, rows, 2, buffer, ROOM, ends, 2, &needed, &index, &fault)
+        != result)
+        return UINT32_MAX;
+    return result;
+}
+
 /* Makes the call of this name. Returns UINT32_MAX if there is none. */
 static uint32_t call_of(const char *name, const char *source, const struct subst_pair *pairs, size_t pairs_len)
 {
@@ -176,6 +268,10 @@ static uint32_t call_of(const char *name, const char *source, const struct subst
     size_t needed;
     if (strcmp(name, "subst_check") == 0)
         return subst_check(source, strlen(source), &fault);
+    if (strcmp(name, "subst_parse") == 0)
+        return subst_parse(source, strlen(source), 0, NULL, 0, &needed, &fault) == SUBST_REFUSED;
+    if (strcmp(name, "subst_expand") == 0)
+        return expanded(source, pairs, pairs_len);
     if (strcmp(name, "subst_bytes") == 0)
         return subst_bytes(source, strlen(source), pairs, pairs_len, buffer, ROOM, &needed, &fault);
     if (strcmp(name, "subst_bytes_into") == 0)
@@ -203,6 +299,8 @@ int main(int argc, char **argv)
     test_rows_and_lists();
     test_documents_and_faults();
     test_yaml();
+    test_templates();
+    test_getters_and_errors();
     test_other_tools();
     EXPECT(subst_version() == SUBST_VERSION && SUBST_VERSION_MINOR < 100 && SUBST_VERSION_PATCH < 100);
     printf("%d passed, %d failed\n", passed, failed);

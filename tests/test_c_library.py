@@ -8,14 +8,14 @@ import re
 import resource
 import time
 
-from tests.installed import CC, Compiling, prefix
+from tests.installed import CC, DONE, REFUSED, ROOM_TOO_SMALL, Cell, Compiling, Place, Value, prefix, sized
 from tests.support import KIB, MIB, TOP, Built, ended, needs, preloading, ran, version
 
 CXX = os.environ.get('CXX') or 'c++'
 STRICT = ('-O2', '-Wall', '-Wextra', '-Wpedantic', '-Wconversion', '-Werror')
 SANITIZED = ('-g', '-fsanitize=address,undefined', '-fno-sanitize-recover=all')
-# Results, kinds of faults and kinds of variables of subst.h.
-DONE, REFUSED, ROOM_TOO_SMALL, MISSING_VARIABLE_NAME, NO_SUCH_VARIABLE, REQUIRED, WITH_DEFAULT = 0, 1, 5, 2, 5, 0, 2
+# A result, kinds of faults and of variables, and a state of values of subst.h.
+TOO_LONG, MISSING_VARIABLE_NAME, NO_SUCH_VARIABLE, REQUIRED, WITH_DEFAULT, SET = 12, 2, 5, 0, 2, 1
 # The option of mmap that reserves no memory for the pages.
 MAP_NORESERVE = 0x4000
 # Templates, and sources with each kind of fault.
@@ -89,6 +89,19 @@ class CLibrary(Compiling, Built):
         self.assertGreater(sum(parse), 0)
         self.assertGreater(sum(copied), sum(into))
 
+    def test_an_expansion_of_cells_takes_no_memory(self):
+        """Only their parse does. In SOURCES the number of the first variable is that of the one value."""
+        program = built('c_library.c')
+        parse, expanded = ([self.requests(program, call, source, 'name', 'world') for source in SOURCES]
+                           for call in ('subst_parse', 'subst_expand'))
+        self.assertEqual(expanded, parse)
+        self.assertGreater(sum(parse), 0)
+
+    @needs('musl-gcc')
+    def test_a_static_program_of_musl_calls_the_library(self):
+        self.need_to_compile('musl-gcc', '-static')
+        ran([built('c_library.c', '-static', compiler='musl-gcc')])
+
     def test_an_index_is_made_of_more_than_16_pairs_for_more_than_16_placeholders(self):
         program = built('c_library.c')
         for count, placed, has_index in ((16, 17, False), (17, 17, True), (64, 16, False)):
@@ -106,8 +119,8 @@ class CLibrary(Compiling, Built):
 
     def test_libraries_define_the_calls_alone(self):
         header = (prefix() / 'include/subst.h').read_text(encoding='utf-8')
-        calls = set(re.findall(r'^uint32_t (subst_(?!call_)\w+)\(', header, re.MULTILINE))
-        self.assertIn('subst_bytes', calls)
+        calls = set(re.findall(r'^(?:uint32_t|size_t) (subst_\w+)\([^;{]*;', header, re.MULTILINE))
+        self.assertLessEqual({'subst_bytes', 'subst_template_variables'}, calls)
         self.assertEqual(defined('-D', prefix() / 'lib/libsubst.so'), calls)
         self.assertEqual(defined(prefix() / 'lib/libsubst.a'), calls)
 
@@ -133,19 +146,6 @@ class Pair(ctypes.Structure):
 class Row(ctypes.Structure):
     """subst_row of subst.h."""
     _fields_ = [('pairs', ctypes.POINTER(Pair)), ('pairs_len', ctypes.c_size_t)]
-
-
-class Place(ctypes.Structure):
-    """subst_fault or subst_variable of subst.h."""
-    _fields_ = [('kind', ctypes.c_uint32), ('position', ctypes.c_size_t), ('length', ctypes.c_size_t)]
-
-    def all(self):
-        return self.kind, self.position, self.length
-
-
-def sized(items):
-    """Returns bytes, or an array, with its length."""
-    return items, ctypes.c_size_t(len(items))
 
 
 def pairs_of(variables):
@@ -211,7 +211,7 @@ class Names(Built):
         self.assertLess(many, 100 * one + 0.1)
 
     def test_sources_around_4_gib_take_little_memory(self):
-        """At this size the parts of a template begin to need offsets of 64 bits."""
+        """At this size the parts of a template begin to need offsets of 64 bits, which cells don't have."""
         before = resource.getrusage(resource.RUSAGE_SELF).ru_maxrss
         for length in (2 ** 32 - 1, 2 ** 32):
             source, pairs, variables = source_of(length, b'${a:', b'}x$b'), {b'a': b'1', b'b': b'2'}, (Place * 2)()
@@ -222,6 +222,15 @@ class Names(Built):
             self.assertEqual(self.fault.all(), (NO_SUCH_VARIABLE, length - 1, 1))
             self.assertEqual((self.call('subst_variables', *source, *sized(variables)), self.needed.value), (DONE, 2))
             self.assertEqual([it.all() for it in variables], [(WITH_DEFAULT, 2, 1), (REQUIRED, length - 1, 1)])
+            cells, values = (Cell * 7)(), (Value * 2)(Value(b'1', 1, SET), Value(b'2', 1, SET))
+            parsed = self.call('subst_parse', *source, 0, *sized(cells))
+            self.assertEqual(parsed, DONE if length < 2 ** 32 else TOO_LONG)
+            if parsed == DONE:
+                template = *sized(cells), *source, values
+                for count, result in ((1, REFUSED), (2, DONE)):
+                    came = self.call('subst_expand', *template, ctypes.c_size_t(count), *sized(self.buffer))
+                    self.assertEqual((came, self.fault.all()), (result, (NO_SUCH_VARIABLE, length - 1, 1)))
+                self.assertEqual((self.needed.value, self.buffer[:4]), (3, b'1x2\0'))
             source = source_of(length, b'', b'$')
             self.assertEqual(self.library.subst_check(*source, ctypes.byref(self.fault)), REFUSED)
             self.assertEqual(self.fault.all(), (MISSING_VARIABLE_NAME, length - 1, 1))

@@ -15,7 +15,7 @@ from tests.test_c_library import SANITIZED
 
 STRICT = ('-std=c99', '-g', '-O1', '-Wall', '-Wextra', '-Werror')
 # The seconds and the seed of libFuzzer.
-SECONDS, SEED = 30, 1
+SECONDS, SEED = 60, 1
 # The most requests for memory of any input.
 MOST_REQUESTS = 5000
 

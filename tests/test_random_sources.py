@@ -3,7 +3,8 @@
 Half of the sources are of the grammar, and half are damaged at one place. Their answers by tests/rules.py, which is
 written from the rules of the language, are in rows as in crates/subst_vectors/data: the output, or the fault and its
 position; the lists of variables and of missing ones; and of a text the answer to the JSON document of this one string.
-The program `subst_vectors` runs each row in every way, and Python each source over the installed library.
+The program `subst_vectors` runs each row in every way, and Python each source over the installed library, also parsed
+into cells that are then expanded.
 `subst_filter` and `subst` run some, also many as one. Before any proof `rt try` runs the first program over the rows of
 some sources. The seed is fixed, unless SEED sets another; each failure names it.
 """
@@ -155,6 +156,8 @@ def compare_file(name, number):
     for source, (answer, listed) in zip(sources, answers):
         expect_same(name, source, installed.answer(module, source, variables), answer)
         expect_same(name, source, installed.lists(module, source, variables), listed or answer)
+        expect_same(name, source, installed.answer(installed.kept(), source, variables), answer)
+        expect_same(name, source, installed.first_uses(source), [installed.firsts(listed[0])] if listed else answer)
 
 
 class Unproved(Tried):

@@ -1,9 +1,10 @@
 """Answers to each row of crates/subst_vectors/data, in each column.
 
 The program `subst_vectors` runs each row in every way, here unproved. The installed module for Python calls the
-installed library for C with each row of bytes and of lists, and with each that is a text once more as a text. The
-program `subst` fills in each document; its output is the row's text, or Python's readers read it back. The rows are
-compared with tests/rules.py too. For a row that differs, the other answer is printed.
+installed library for C with each row of bytes and of lists, and with each that is a text once more as a text. Each row
+of bytes is parsed into cells, and expanded from them; for a row of lists, first uses are compared. The program `subst`
+fills in each document; its output is the row's text, or Python's readers read it back. The rows are compared with
+tests/rules.py too. For a row that differs, the other answer is printed.
 """
 import functools
 from concurrent.futures import ThreadPoolExecutor
@@ -42,6 +43,13 @@ def by_bytes(module, row):
 def by_texts(module, row):
     ask = installed.lists if row.kind == 'lists' else installed.answer
     return ask(module, row.source.decode(), texts_of(row))
+
+
+def by_cells(row):
+    if row.kind == 'bytes':
+        return installed.answer(installed.kept(), row.source, row.variables)
+    came = installed.first_uses(row.source)
+    return row.answer if came == [installed.firsts(row.answer[0])] else came
 
 
 def texts_of(row):
@@ -156,6 +164,9 @@ class ByTheLibrary(Rows, Built):
 
     def test_bytes_by_the_library(self):
         self.compare(is_of_library, functools.partial(by_bytes, self.module))
+
+    def test_bytes_by_cells(self):
+        self.compare(is_of_library, by_cells)
 
     def test_texts_by_the_library(self):
         self.compare(is_text_of_library, functools.partial(by_texts, self.module))
