@@ -11,7 +11,7 @@ import tempfile
 import zipfile
 
 TOP = pathlib.Path(__file__).resolve().parent.parent
-LIBRARY = 'libsubst.so.0'
+LIBRARY, FAST = 'subst/libsubst.so.0', 'subst/_fast.abi3.so'
 METADATA = '''Metadata-Version: 2.1
 Name: subst
 Version: {version}
@@ -30,35 +30,38 @@ WHEEL = 'Wheel-Version: 1.0\nGenerator: subst\nRoot-Is-Purelib: false\nTag: {tag
 TIME = (1980, 1, 1, 0, 0, 0)
 
 
-def printed(*command):
+def printed(*command, **variables):
     """What a command prints."""
-    return subprocess.run(command, check=True, cwd=TOP, stdin=subprocess.DEVNULL, stdout=subprocess.PIPE).stdout
+    return subprocess.run(command, check=True, cwd=TOP, env={**os.environ, **variables}, stdin=subprocess.DEVNULL,
+                          stdout=subprocess.PIPE).stdout
 
 
-def library():
-    """The library, as tools/install puts it below a prefix."""
+def installed():
+    """The package and the library, as tools/install puts them below a prefix, in one folder."""
     with tempfile.TemporaryDirectory() as prefix:
-        printed('tools/install', '--library', prefix)
-        return pathlib.Path(prefix, 'lib', LIBRARY).read_bytes()
+        for option in ('--library', '--python'):
+            printed('tools/install', option, prefix, LIBDIR='python/subst', PYTHONDIR='python')
+        found = {path: pathlib.Path(prefix, 'python', path) for path in (LIBRARY, FAST)}
+        found.update((f'subst/{path.name}', path) for path in pathlib.Path(prefix, 'python/subst').glob('*.py*'))
+        found['subst/py.typed'] = pathlib.Path(prefix, 'python/subst/py.typed')
+        return {name: path.read_bytes() for name, path in found.items() if path.exists()}
 
 
 def platform_of(data):
-    """Returns the platform of a library: manylinux with the greatest GLIBC_2.N that it needs, but not below 2.5, which
-    installers don't know. It is linux_x86_64 if the library needs another version of a symbol, or none."""
+    """Returns the platform of libraries: manylinux with the greatest GLIBC_2.N that they need, but not below 2.5, which
+    installers don't know. It is linux_x86_64 if they need another version of a symbol, or none."""
     needed = [re.match(rb'2\.(\d+)(?:\.\d+)?$', it) for it in re.findall(rb'(?<=\0)GLIBC_([^\0]+)(?=\0)', data)]
     return f'manylinux_2_{max(5, *(int(it[1]) for it in needed))}_x86_64' if needed and all(needed) else 'linux_x86_64'
 
 
 def tag_of(found):
-    """Returns the tag of the wheel with these files."""
-    return 'py3-none-' + platform_of(found[f'subst/{LIBRARY}'])
+    """Returns the tag of the wheel with these files: with the module in C, that of CPython's stable interface."""
+    return ('cp38-abi3-' if FAST in found else 'py3-none-') + platform_of(found[LIBRARY] + found.get(FAST, b''))
 
 
 def files(version):
     """The files of the wheel, but the list of them, by their paths."""
-    package = TOP / 'python/subst'
-    found = {f'subst/{path.name}': path.read_bytes() for path in (*package.glob('*.py'), package / 'py.typed')}
-    found[f'subst/{LIBRARY}'] = library()
+    found = installed()
     about = f'subst-{version}.dist-info'
     found[f'{about}/METADATA'] = METADATA.format(version=version).encode()
     found[f'{about}/WHEEL'] = WHEEL.format(tag=tag_of(found)).encode()

@@ -1,10 +1,12 @@
-"""Tests of the package subst, over the library that it finds. tests/test_vectors.py compares its answers to all stored
-rows, and the text of every fault.
+"""Tests of the package subst, over the library that it finds. If the package has its module in C, they are run again by
+ctypes alone. tests/test_vectors.py compares its answers to all stored rows, and the text of every fault.
 """
 import collections.abc
 import concurrent.futures
 import copy
+import ctypes
 import doctest
+import gc
 import itertools
 import os
 import pathlib
@@ -28,13 +30,30 @@ MIB = 1 << 20
 SIZES = (64 * 1024 - 1, 64 * 1024, MIB, 3 * MIB + 1)
 
 
-def load_tests(_loader, tests, _pattern):
+def load_tests(loader, tests, _pattern):
     tests.addTests(doctest.DocTestSuite(subst))
+    if _library.in_c is not None:
+        for case in (it for it in Case.__subclasses__() if it is not Package):
+            again = type(f'{case.__name__}ByCtypes', (case,), {'setUp': by_ctypes})
+            tests.addTests(loader.loadTestsFromTestCase(again))
     return tests
+
+
+def by_ctypes(test):
+    """Lets a test run by ctypes alone."""
+    for patch in (mock.patch.object(subst, '_in_c', None), mock.patch.object(_source, '_in_c', None),
+                  mock.patch.dict(subst._kept, {str: {}, bytes: {}})):
+        patch.start()
+        test.addCleanup(patch.stop)
 
 
 def encoded(variables):
     return {name.encode(): value.encode() for name, value in variables.items()}
+
+
+def resident():
+    """Returns the bytes of memory that this process uses."""
+    return int(pathlib.Path('/proc/self/statm').read_text().split()[1]) * os.sysconf('SC_PAGE_SIZE')
 
 
 class Case(unittest.TestCase):
@@ -194,6 +213,50 @@ class Asked(Case):
         with mock.patch.dict(os.environb, {b'SUBST_TEST': b'\xff', b'SUBST_OTHER': b'x'}):
             self.assertEqual(subst.fill_in('$SUBST_OTHER', os.environ), 'x')
             self.assertRaises(UnicodeEncodeError, subst.fill_in, '$SUBST_TEST', os.environ)
+
+    def test_mapping_that_raises(self):
+        class Broken(self.Mapping):
+            def __getitem__(self, name):
+                raise ZeroDivisionError(name)
+        class Name(str):
+            __hash__ = str.__hash__
+            def __eq__(self, other):
+                raise ZeroDivisionError(str(other))
+        template = Template('$a')
+        for variables in (Broken(), collections.ChainMap({}, Broken()), {Name('a'): 'x'}):
+            for call in (template.fill_in, template.missing, lambda it: subst.fill_in('$a', it),
+                         lambda it: template.fill_in_each([{'a': 'x'}, it]), lambda it: subst.fill_in_json('"$a"', it)):
+                with self.assertRaisesRegex(ZeroDivisionError, '^a$') as caught:
+                    call(variables)
+                self.assertIsNone(caught.exception.__context__)
+
+    def test_dict_that_changes_at_a_lookup(self):
+        """A key that is compared by a method of its own may call the package, and change the dict."""
+        for kind, source, a, b, value in ((str, '$a$b', 'a', 'b', 'é'), (bytes, b'$a$b', b'a', b'b', b'x')):
+            template = Template(source)
+            class Name(kind):
+                __hash__ = kind.__hash__
+                def __eq__(self, other):
+                    nested.append(template.fill_in({a: a, b: b}))
+                    nested.append(subst.fill_in(source, {a: a, b: b}))
+                    variables[a] = a
+                    return kind.__eq__(self, other)
+            for call in (template.fill_in, lambda it: subst.fill_in(source, it),
+                         lambda it: template.fill_in_each([it])[0]):
+                nested, variables = [], {a: value * 3000, Name(b): b}
+                self.assertEqual(call(variables), value * 3000 + b)
+                self.assertEqual(({*nested}, variables), ({a + b}, {a: a, b: b}))
+
+    def test_many_names(self):
+        for count in (0, 1, 15, 16, 17, 65, 1000):
+            source = ''.join(f'<$a{number}>' for number in range(count)) * 2
+            for kind in (str, bytes):
+                text, variables = source, {f'a{number}': f'é{number}' for number in range(count)}
+                wanted = ''.join(f'<é{number}>' for number in range(count)) * 2
+                if kind is bytes:
+                    text, variables, wanted = text.encode(), encoded(variables), wanted.encode()
+                self.assertEqual((subst.fill_in(text, variables), Template(text).fill_in(variables)), (wanted, wanted))
+                self.assertEqual(len(subst.missing(text)), 2 * count)
 
     def test_mapping_that_fills_in_itself(self):
         template = Template('$a$b')
@@ -742,6 +805,7 @@ class Contexts(Case):
         self.expect(UnicodeDecodeError, subst.fill_in_json, b'"$a"', {b'a': b'\xff'})
 
     def test_frame_that_another_thread_takes(self):
+        by_ctypes(self)
         class Taken(list):
             def pop(self):
                 raise IndexError
@@ -753,22 +817,69 @@ class Contexts(Case):
 
 
 class Outside(Case):
-    """Memory, threads, and the search for the library."""
+    """Memory and threads."""
 
     def test_out_of_memory(self):
-        template = Template('$a')
-        others = ('subst_fault_text', 'subst_fault_highlighting', 'subst_json_fault_text', 'subst_toml_fault_text',
-                  'subst_yaml_fault_text', 'subst_shell_form_text', 'subst_place', 'subst_version')
+        by_ctypes(self)
+        template, long = Template('$a'), Template('$a' * 100)
+        others = ('subst_bytes_into', 'subst_bytes_each', 'subst_template_new', 'subst_template_variables',
+                  'subst_template_variable', 'subst_expand', 'subst_error_text', 'subst_error_highlighting',
+                  'subst_json_fault_text', 'subst_toml_fault_text', 'subst_yaml_fault_text', 'subst_shell_form_text',
+                  'subst_place', 'subst_version')
         names = [name for name in _library.ARGUMENTS if name not in others]
         library = mock.Mock(**{f'{name}.return_value': 4 for name in names})
         with mock.patch.object(_source, '_library', library), mock.patch.object(_style, '_library', library):
-            for call in (lambda: subst.fill_in('x' * MIB, {}), lambda: subst.check(''), lambda: subst.variables('no'),
+            for call in (lambda: subst.fill_in('x' * MIB, {}), lambda: subst.check(''), long.variables,
                          lambda: template.missing({}), lambda: template.fill_in_each([]),
                          lambda: subst.fill_in_json('', {}), lambda: subst.fill_in_toml('', {}),
                          lambda: subst.fill_in_yaml('', {}),
                          lambda: subst.from_shell(''), lambda: subst.fill_in_by_style('', forms=Forms.OWN)):
                 self.assertRaises(MemoryError, call)
         self.assertEqual(sorted(name for name in names if getattr(library, name).called), sorted(names))
+
+    def test_source_that_is_too_long_for_cells(self):
+        by_ctypes(self)
+        with mock.patch.object(_library.library, 'subst_parse', return_value=_library.TOO_LONG):
+            template = Template('é$b ${a:$c} $b')
+            for _ in range(4):
+                self.assertEqual(template.fill_in({'b': 'x', 'c': 'y'}), 'éx y x')
+            self.assertEqual(template.fill_in_each([{'b': 'x', 'a': ''}, {'b': '', 'c': 'y'}]), ['éx  x', 'é y '])
+            self.assertEqual(self.refused(template.fill_in_each, [{'b': '', 'c': ''}, {'b': ''}]).row, 1)
+            self.assertEqual(self.refused(subst.fill_in, 'é$b', {}).position, 2)
+            self.assertEqual(template.missing({'a': ''}), template.variables()[:1] + template.variables()[3:])
+        self.refused(Template, '$' * 1000)
+
+    def test_memory_does_not_grow(self):
+        """No call keeps a reference or memory, whatever its result is."""
+        template, of_bytes, wide = Template('$a ${b?}'), Template(b'$a' * 9, no_empty=True), Template('$a' * 30000)
+        many, of_many = ''.join(f'$a{number} ' for number in range(40)), {f'a{number}': '' for number in range(40)}
+        value, data = 'é' * 30, b'x' * 300
+        wrong = (SubstError, {}), (TypeError, {'a': data}), (UnicodeEncodeError, {'a': '\udc80'})
+
+        def work():
+            self.assertEqual(template.fill_in({'a': value}), f'{value} ')
+            self.assertEqual(subst.fill_in(f'{many}{time.perf_counter()}', of_many)[:40], ' ' * 40)
+            self.assertEqual(of_bytes.fill_in({b'a': data}), data * 9)
+            wide.fill_in({'a': value})
+            for call in (template.fill_in, lambda it: subst.fill_in('$a', it), lambda it: template.fill_in_each([it])):
+                for error, variables in wrong:
+                    self.assertRaises(error, call, variables)
+            self.assertRaises(SubstError, subst.fill_in, f'${{{time.perf_counter()}', {})
+            Template(f'$a {time.perf_counter()}').fill_in(a=value)
+
+        def grown():
+            for _ in range(100):
+                work()
+            for kept in subst._kept.values():
+                kept.clear()
+            gc.collect()
+            return sys.getallocatedblocks(), sys.getrefcount(value), sys.getrefcount(data), resident()
+
+        grown()
+        before, after = grown(), grown()
+        self.assertEqual(after[1:3], before[1:3])
+        self.assertLess(after[0] - before[0], 100)
+        self.assertLess(after[3] - before[3], 2 * MIB)
 
     def test_four_threads(self):
         template = Template('$a ${b:-} $a')
@@ -778,12 +889,26 @@ class Outside(Case):
                 value = f'{word}{number}' * number
                 self.assertEqual(template.fill_in({'a': value}), f'{value} - {value}')
                 self.assertEqual(template.fill_in({'a': word, 'b': f'{number}'}), f'{word} {number} {word}')
+                self.assertEqual(subst.fill_in(f'$a{number}', {f'a{number}': word}), word)
                 self.assertEqual(template.fill_in_each([{'a': word}] * 3), [f'{word} - {word}'] * 3)
                 self.assertEqual(self.refused(subst.fill_in, f'${word}', {}).name, word)
             return word
 
         with concurrent.futures.ThreadPoolExecutor(4) as threads:
             self.assertEqual(list(threads.map(work, 'abcd')), list('abcd'))
+
+    def test_large_values_in_four_threads(self):
+        """The module in C lets other threads run while it works on large values."""
+        template = Template('$a${b:}$a')
+
+        def work(word):
+            variables = {'a': word * 100000, 'b': 'é' * 50000}
+            for _ in range(40):
+                self.assertTrue(template.fill_in(variables) == variables['a'] + variables['b'] + variables['a'])
+                self.assertTrue(subst.fill_in('$a' * 50000, {'a': word}) == word * 50000)
+
+        with concurrent.futures.ThreadPoolExecutor(4) as threads:
+            list(threads.map(work, 'abcd'))
 
     def test_large(self):
         """Each byte of 40 MiB of a source and of 40 MiB of a value is in the output."""
@@ -797,6 +922,7 @@ class Outside(Case):
         """Another thread counts while a call works."""
         source, variables, ticks = '$a' * (4 * MIB), {'a': 'x'}, []
         template, is_done = Template(source), threading.Event()
+        name = 'call' if template._source.fast is None else 'fast'
 
         def count():
             while not is_done.is_set():
@@ -804,7 +930,7 @@ class Outside(Case):
                 time.sleep(0.0005)
 
         thread = threading.Thread(target=count)
-        with mock.patch.object(template._source, 'call', self.timed(template._source.call)) as call:
+        with mock.patch.object(template._source, name, self.timed(getattr(template._source, name))) as call:
             thread.start()
             template.fill_in(variables)
             is_done.set()
@@ -836,6 +962,28 @@ class Outside(Case):
             return min(times)
         self.assertLess(took(400000, 1), 20 * took(50000, 2))
 
+
+class Package(Case):
+    """The types of the package, the module in C, and the search for the library."""
+
+    def test_module_in_c_out_of_memory(self):
+        """If a call of the module fails, it is made by ctypes."""
+        if subst._in_c is None:
+            self.skipTest('the package has no module in C, or SUBST_FAST is 0')
+        calls = [getattr(_library.library, f'subst_{name}') for name in (
+            'template_new', 'template_variables', 'template_variable', 'expand')]
+        failing = ctypes.CFUNCTYPE(ctypes.c_uint32)(lambda: _library.OUT_OF_MEMORY)
+        self.addCleanup(subst._in_c.bind, _library.addresses(calls))
+        template = Template('$a')
+        for index in (0, 3):
+            subst._in_c.bind(_library.addresses([*calls[:index], failing, *calls[index + 1:]]))
+            for call in (template.fill_in, lambda it: subst.fill_in('$a', it),
+                         lambda it: template.fill_in_each([it])[0]):
+                self.assertEqual(call({'a': 'x'}), 'x')
+                self.assertEqual(self.refused(call, {}).name, 'a')
+        self.assertRaises(TypeError, subst._in_c.bind, 1)
+        self.assertRaises(ValueError, subst._in_c.bind, b'')
+
     def test_types_are_checked(self):
         """mypy, if it is installed, finds the types of the package and of these uses of it right."""
         mypy = shutil.which('mypy')
@@ -848,9 +996,8 @@ class Outside(Case):
             ran = subprocess.run(command, cwd=folder, stdout=subprocess.PIPE, universal_newlines=True)
             self.assertEqual(ran.returncode, 0, ran.stdout)
 
-    def imported(self, folder, **variables):
+    def imported(self, folder, code='from subst import _library; print(_library.library._name)', **variables):
         """Returns the path of the library that the module in a folder loads, or the last line of the error."""
-        code = 'from subst import _library; print(_library.library._name)'
         environment = {name: value for name, value in os.environ.items() if name != 'SUBST_LIBRARY'}
         environment.update(variables, PYTHONPATH=str(folder), PYTHONDONTWRITEBYTECODE='1')
         ran = subprocess.run([sys.executable, '-c', code], env=environment, cwd=folder, stdout=subprocess.PIPE,
@@ -881,6 +1028,19 @@ class Outside(Case):
         self.assertRegex(none, '^ImportError: the library of subst is not loaded: /none/there: .*SUBST_LIBRARY')
         other = self.imported(folder, SUBST_LIBRARY='libc.so.6')
         self.assertEqual(other, 'ImportError: libc.so.6 is not the library of subst: it has no subst_bytes_into')
+
+    def test_module_in_c_is_chosen(self):
+        """Without the module, or with SUBST_FAST=0, all calls are made by ctypes."""
+        code = 'import subst; print(subst._in_c is None, subst.fill_in("$a", a="x"))'
+        package = pathlib.Path(subst.__file__).parent
+        more = {'SUBST_LIBRARY': _library.library._name}
+        self.assertEqual(self.imported(package.parent, code, **more), f'{subst._in_c is None} x')
+        self.assertEqual(self.imported(package.parent, code, SUBST_FAST='0', **more), 'True x')
+        with tempfile.TemporaryDirectory() as folder:
+            shutil.copytree(package, f'{folder}/subst', ignore=shutil.ignore_patterns('_fast.*'))
+            self.assertEqual(self.imported(folder, code, **more), 'True x')
+            pathlib.Path(folder, 'subst/_fast.abi3.so').write_bytes(b'no library')
+            self.assertEqual(self.imported(folder, code, **more), 'True x')
 
     def test_names(self):
         for name in subst.__all__:

@@ -16,7 +16,7 @@ import tempfile
 import completions
 from building import PROGRAMS, TOP, path_of, version
 from filled import filled
-from tests.installed import CC, Compiling, packages
+from tests.installed import CC, Compiling, has_fast, packages
 from tests.support import SCRATCH, Built, Case, ended, needs, ran
 
 USAGES = {'install': 'usage: tools/install [--static | --library | --python | --uninstall] PREFIX\n',
@@ -232,7 +232,7 @@ class DebianPackages(Installing, Built):
         again = deb('again', env={**os.environ, 'TZ': 'Asia/Tokyo'}, preexec_fn=lambda: os.umask(0o77))
         self.assertEqual([*again], ['subst', 'libsubst0', 'libsubst-dev', 'python3-subst'])
         for name, package in made_packages().items():
-            of = 'all' if name == 'python3-subst' else 'amd64'
+            of = 'all' if name == 'python3-subst' and not has_fast() else 'amd64'
             self.assertRegex(package, rf'^/.*/{name}_{re.escape(version())}(~\d+)?_{of}\.deb$')
             self.assertTrue(pathlib.Path(package).read_bytes() == pathlib.Path(again[name]).read_bytes(), name)
             self.assert_readable(package)
@@ -272,13 +272,14 @@ class DebianPackages(Installing, Built):
         module[f'{PYTHON}/subst/py.typed'] = TOP / 'python/subst/py.typed'
         libraries = ('libsubst.so.0', 'libsubst.so', 'libsubst.a', 'pkgconfig/subst.pc')
         files = {**bytes_of(module), 'include/subst.h': None, **{f'{DEBIAN_LIBRARIES}/{it}': None for it in libraries},
+                 **({f'{PYTHON}/subst/_fast.abi3.so': None} if has_fast() else {}),
                  **{f'share/doc/{name}/changelog.gz': None for name in names},
                  **{f'share/doc/{name}/copyright': licences('--debian', 'subst_c') for name in names},
                  'share/doc/python3-subst/copyright': licences()}
         self.assert_files(usr, files)
         loaded = {**os.environ, 'LD_LIBRARY_PATH': str(usr / DEBIAN_LIBRARIES), 'PYTHONPATH': str(usr / PYTHON)}
-        code = 'import subst; print(subst.fill_in("Hello $name!", {"name": "world"}))'
-        self.assertEqual(ran([sys.executable, '-B', '-c', code], env=loaded), 'Hello world!\n')
+        code = 'import subst; print(subst.fill_in("Hello $name!", {"name": "world"}), subst._library.in_c is not None)'
+        self.assertEqual(ran([sys.executable, '-B', '-c', code], env=loaded), f'Hello world! {has_fast()}\n')
         found = {**os.environ, 'PKG_CONFIG_SYSROOT_DIR': 'system',
                  'PKG_CONFIG_LIBDIR': f'system/usr/{DEBIAN_LIBRARIES}/pkgconfig'}
         words = ran(['pkg-config', '--cflags', '--libs', 'subst'], env=found).split()

@@ -8,14 +8,17 @@ import re
 import runpy
 import shutil
 import sys
+import sysconfig
 import unittest
 import zipfile
 
 from building import TOP
-from tests.installed import packages, prefix
+from filled import filled
+from tests.installed import CC, has_fast, packages, prefix
 from tests.support import Built, ended, ran
 
-GREETING = 'import subst; print(subst.__file__, subst.fill_in("Hello $name!", {"name": "world"}))'
+GREETING = '''import subst
+print(subst.__file__, subst.fill_in("Hello $name!", {"name": "world"}), subst._library.in_c is not None)'''
 
 
 def wheel(folder):
@@ -28,10 +31,11 @@ class PythonLibrary(Built):
 
     def assert_passes(self, python, folder, **variables):
         """Fails the test unless Python finds the package in a folder, and all of its tests pass."""
-        inherited = {name: value for name, value in os.environ.items() if name not in ('SUBST_LIBRARY', 'PYTHONPATH')}
+        ours = 'SUBST_LIBRARY', 'SUBST_FAST', 'PYTHONPATH'
+        inherited = {name: value for name, value in os.environ.items() if name not in ours}
         options = {'env': {**inherited, **variables}, 'timeout': 600}
         greeting = ran([python, '-B', '-c', GREETING], **options)
-        self.assertEqual(greeting, f"{folder / 'subst/__init__.py'} Hello world!\n")
+        self.assertEqual(greeting, f"{folder / 'subst/__init__.py'} Hello world! {has_fast()}\n")
         shutil.copy(TOP / 'python/test_subst.py', '.')
         end = ended([python, '-B', 'test_subst.py', '-v'], **options)
         self.assertEqual(end.returncode, 0, end.stdout)
@@ -43,6 +47,18 @@ class PythonLibrary(Built):
     def test_the_package_below_a_prefix_passes_its_tests(self):
         folder = packages(prefix())
         self.assert_passes(sys.executable, folder, PYTHONPATH=str(folder))
+
+    def test_without_a_compiler_the_package_has_no_module_in_c(self):
+        said = ran([TOP / 'tools/install', '--python', os.path.abspath('prefix')], env={**os.environ, 'CC': 'none'})
+        self.assertIn('tools/install: the package has no module in C: that needs none and ', said)
+        self.assertEqual([*pathlib.Path('prefix').rglob('_fast*')], [])
+
+    @unittest.skipUnless(has_fast(), 'there is no Python.h')
+    def test_the_module_in_c_has_no_warnings(self):
+        pathlib.Path('subst.h').write_text(filled(TOP / 'include/subst.h.in'), encoding='utf-8')
+        warnings = '-Wall -Wextra -Wpedantic -Wconversion -Wshadow -Wstrict-prototypes -Werror'.split()
+        headers = f'-I{sysconfig.get_paths()["include"]}'
+        ran([CC, '-std=c99', *warnings, headers, '-I.', '-fsyntax-only', TOP / 'python/fast.c'])
 
     def test_a_wheel_is_made_again_with_the_same_bytes(self):
         self.assertTrue(wheel('a').read_bytes() == wheel('b').read_bytes())
@@ -58,9 +74,9 @@ class PythonLibrary(Built):
             library = archive.extract('subst/libsubst.so.0')
             tags = [archive.read(name).decode() for name in archive.namelist() if name.endswith('/WHEEL')]
         needed = re.findall(r'GLIBC_2\.(\d+)', ran(['objdump', '-T', library]))
-        platform = f'manylinux_2_{max(map(int, needed))}_x86_64'
-        self.assertTrue(path.name.endswith(f'-py3-none-{platform}.whl'), path)
-        self.assertRegex(tags[0], f'\nTag: py3-none-{platform}\n')
+        tag = f'{"cp38-abi3" if has_fast() else "py3-none"}-manylinux_2_{max(map(int, needed))}_x86_64'
+        self.assertTrue(path.name.endswith(f'-{tag}.whl'), path)
+        self.assertRegex(tags[0], f'\nTag: {tag}\n')
 
     @unittest.skipIf(importlib.util.find_spec('ensurepip') is None, 'Python has no ensurepip')
     def test_a_wheel_installs_into_a_clean_environment(self):

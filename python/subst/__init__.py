@@ -30,22 +30,23 @@ raises TypeError.
 
 A refused source raises SubstError, and a lack of memory raises MemoryError. A str with lone surrogates, as in a value
 of os.environ, raises UnicodeEncodeError if it is used, which names the variable. Several threads may call at once, and
-each lets the others run. Templates of the last short sources are cached.
+each lets the others run while it works on more than 64 KiB. Templates of the last short sources are cached.
 
 fill_in_json, fill_in_toml and fill_in_yaml fill in the strings of a document, and leave all else as it is. A document
 in bytes has to be UTF-8, or DocumentError is raised. So have its values, or UnicodeDecodeError is raised.
 
 The package calls the library libsubst.so.0: the file that the environment variable SUBST_LIBRARY names, or else the one
 in the folder of this package, or three folders above it, where tools/install puts it, or the one that the loader finds.
+Calls are made by subst._fast, a module in C, or by ctypes if the package has no such module or SUBST_FAST is 0.
 """
 from __future__ import annotations
 
 from typing import Any, AnyStr, Dict, FrozenSet, Generic, Iterable, List, Mapping, Optional, Tuple, Union, overload
 
 from . import _foreign
-from ._library import version as _version
+from ._library import in_c as _in_c, version as _version
 from ._memory import BYTES as _BYTES, TEXT as _TEXT, Encoding as _Encoding
-from ._source import (Document as _Document, Source as _Source, check as _check, fill_in_large as _fill_in_large,
+from ._source import (NONE as _NONE, Document as _Document, Source as _Source, check as _check,
                       from_shell as _from_shell)
 from ._style import Text as _Text
 from ._types import DocumentError, FaultKind, Forms, ShellError, ShellForm, SubstError, Variable, VariableKind
@@ -54,9 +55,8 @@ __all__ = ['DocumentError', 'FaultKind', 'Forms', 'ShellError', 'ShellForm', 'Su
            'VariableKind', 'check', 'fill_in', 'fill_in_by_style', 'fill_in_json', 'fill_in_toml', 'fill_in_tree',
            'fill_in_yaml', 'from_envsubst', 'from_shell', 'missing', 'variables']
 
-# The types that count as bytes, and a mapping without values.
+# The types that count as bytes.
 _BytesLike = Union[bytes, bytearray, memoryview]
-_NONE: Mapping[Any, Any] = {}
 
 
 class Template(Generic[AnyStr]):
@@ -87,7 +87,7 @@ class Template(Generic[AnyStr]):
 
     def __repr__(self) -> str:
         named = zip(('only', 'optional', 'no_empty'), self._choice())
-        words = [f'{name}={value!r}' for name, value in named if value not in (None, False)]
+        words: List[str] = [f'{name}={value!r}' for name, value in named if value not in (None, False)]
         return f'Template({", ".join([repr(self.source), *words])})'
 
     def __eq__(self, other: object) -> bool:
@@ -106,7 +106,12 @@ class Template(Generic[AnyStr]):
 
     def fill_in(self, variables: Mapping[AnyStr, AnyStr] = _NONE, /, **more: AnyStr) -> AnyStr:
         """Expands the template, and returns the output. Raises SubstError if a needed variable is unset."""
-        return self._source.fill_in(variables, more)
+        source = self._source
+        if source.fast is not None and (not more or variables is _NONE and source.encoding is _TEXT):
+            output = source.fast(more or variables)
+            if output is not None:
+                return output
+        return source.fill_in(variables, more)
 
     def fill_in_each(self, rows: Iterable[Mapping[AnyStr, AnyStr]]) -> List[AnyStr]:
         """Expands the template for each row of variables, and returns the outputs in order.
@@ -153,13 +158,8 @@ def fill_in(source: _BytesLike, variables: Mapping[bytes, _BytesLike] = ..., /, 
 def fill_in(source: Any, variables: Mapping[Any, Any] = _NONE, /, *, only: Optional[Iterable[Any]] = None,
             optional: bool = False, no_empty: bool = False, **more: Any) -> Any:
     """Expands a source, and returns the output. Raises SubstError if the source is refused."""
-    if type(variables) is dict and type(source) in _kept and len(source) > _LARGE and len(variables) <= _FEW:
-        if not more and only is None and optional is False and no_empty is False:
-            try:
-                return _fill_in_large(_encoding_of(source), source, variables)
-            except (TypeError, UnicodeEncodeError):
-                # A wrong type, or a lone surrogate, is an error only if it is used.
-                pass
+    if only is None and optional is False and no_empty is False:
+        return _filled(source, variables, more)
     return _source_of(source, only, optional, no_empty).fill_in(variables, more)
 
 
@@ -251,7 +251,9 @@ def fill_in_tree(tree: Any, variables: Mapping[str, str] = _NONE, /, *, only: Op
         if not isinstance(node, str):
             return node
         try:
-            return (_source_of(node) if is_plain else _Source(_TEXT, node, *choice)).fill_in(variables, more)
+            if is_plain:
+                return _filled(node, variables, more)
+            return _Source(_TEXT, node, *choice).fill_in(variables, more)
         except SubstError as error:
             refused = error
         raise refused.below(path) if path else refused
@@ -382,11 +384,18 @@ def missing(source: Any, variables: Mapping[Any, Any] = _NONE, /, *, no_empty: b
     return _source_of(source, no_empty=no_empty).missing(variables, more)
 
 
-# The most variables of a dict, and the length past which a source is large, for a call of fill_in_large.
-_FEW, _LARGE = 1 << 10, 1 << 16
 # The cached sources by their type: at most this many, each of at most this length.
 _kept: Dict[type, Dict[Any, _Source[Any]]] = {str: {}, bytes: {}}
 _KEPT_SOURCES, _KEPT_LENGTH = 64, 4096
+
+
+def _filled(source: Any, variables: Any, more: Mapping[str, Any]) -> Any:
+    """Does what fill_in does without options."""
+    if _in_c is not None and (not more or variables is _NONE and isinstance(source, str)):
+        output = _in_c.fill_in(source, more or variables)
+        if output is not None:
+            return output
+    return _source_of(source).fill_in(variables, more)
 
 
 def _source_of(given: Any, only: Optional[Iterable[Any]] = None, optional: bool = False,

@@ -5,12 +5,12 @@ import ctypes
 import functools
 from abc import ABC, abstractmethod
 from array import array
-from typing import AnyStr, Callable, Generic, List, NamedTuple, Sequence, Tuple, Type
+from typing import Any, AnyStr, Callable, Generic, List, NamedTuple, Sequence, Tuple, Type
 
 # The indices of the words that a call writes: the length needed; a fault's kind, position and length; and a row. HEAD
-# is how many these are. The words of a pair, and of a variable: its kind, and its name's position and length.
+# is how many these are. The words of a variable: its kind, and its name's position and length.
 NEEDED, FAULT, ROW, HEAD = 0, 1, 4, 5
-PAIR, RECORD = 4, 3
+RECORD = 3
 # The sizes of memory that is kept for later calls, in bytes and in words.
 _KEPT_BYTES, _KEPT_WORDS = 1 << 16, 1 << 10
 # The most bytes of a source that has frames, and of the values in a frame.
@@ -57,6 +57,9 @@ class _Text(Encoding[str]):
         parts = [str.encode(word) for word in words]
         return b''.join(parts), [*map(len, parts)]
 
+    def encoded(self, word: str) -> bytes:
+        return str.encode(word)
+
     def decoded(self, output: bytearray) -> str:
         return output.decode()
 
@@ -97,6 +100,19 @@ def _copied(word: object) -> bytes:
 TEXT, BYTES = _Text(), _Bytes()
 
 
+class Layout(NamedTuple):
+    """An item of a call: its words, the index of its value's address, which the length follows, and that of a word that
+    is 0 if there is no value."""
+
+    width: int
+    value: int
+    given: int
+
+
+# A pair, which without a value has an empty name, as no variable has; and the value of a variable with a number.
+PAIRS, VALUES = Layout(4, 2, 1), Layout(3, 0, 2)
+
+
 def address_of(memory: bytearray) -> int:
     """Returns the address of memory whose length never changes and isn't 0."""
     return ctypes.addressof(ctypes.c_char.from_buffer(memory))
@@ -109,7 +125,7 @@ class Memory:
     __slots__ = ('words', 'head_at', 'fault_at', 'items_at', 'room', 'bytes_at', 'size', 'is_kept')
 
     def __init__(self, words: int, size: int, is_kept: bool = False) -> None:
-        self.words = array('Q', bytes(8 * (HEAD + words)))
+        self.words = array('Q', (0,)) * (HEAD + words)
         self.head_at = self.words.buffer_info()[0]
         self.fault_at, self.items_at = self.head_at + 8 * FAULT, self.head_at + 8 * HEAD
         self.room, self.size, self.is_kept = bytearray(size or 1), size, is_kept
@@ -121,22 +137,24 @@ class Memory:
         kind, position, length = self.words[FAULT:FAULT + 3]
         return kind & 0xffffffff, position, length
 
-    def put(self, pairs: array[int], values: bytes, lengths: Sequence[int], absent: Sequence[int] = ()) -> None:
-        """Writes pairs and their values to memory. A pair without a value has an empty name, as no variable has."""
+    def put(self, items: array[int], layout: Layout, values: bytes, lengths: Sequence[int],
+            absent: Sequence[int] = ()) -> None:
+        """Writes items of this layout and their values to memory, but no values for those that are absent."""
         self.room[:len(values)] = values
-        words, at, index = self.words, self.bytes_at, HEAD + 2
-        words[HEAD:HEAD + len(pairs)] = pairs
+        width, value, given = layout
+        words, at, index = self.words, self.bytes_at, HEAD + value
+        words[HEAD:HEAD + len(items)] = items
         for length in lengths:
             words[index] = at
             words[index + 1] = length
             at += length
-            index += PAIR
+            index += width
         for missing in absent:
-            words[HEAD + PAIR * missing + 1] = 0
+            words[HEAD + width * missing + given] = 0
 
     def has_value(self, index: int) -> bool:
         """Returns whether the pair at an index has a value, which may be empty."""
-        return self.words[HEAD + PAIR * index + 1] > 0
+        return self.words[HEAD + PAIRS.width * index + PAIRS.given] > 0
 
 
 class Frame(NamedTuple):
@@ -149,15 +167,16 @@ class Frame(NamedTuple):
     at: int
 
 
-def frame_for(call: Callable[..., int], source: bytes, pairs: array[int]) -> Frame:
-    """Returns a frame for a source and its pairs, and for a call without declared types of arguments."""
-    size = 2 * FRAME_VALUES + len(source)
-    memory = Memory(len(pairs), size)
-    memory.words[HEAD:HEAD + len(pairs)] = pairs
+def frame_for(call: Callable[..., int], front: Sequence[Any], length: int, items: array[int], count: int) -> Frame:
+    """Returns a frame for a call without declared types of arguments, with the first of these and with so many items,
+    and for a source of this length."""
+    size = 2 * FRAME_VALUES + length
+    memory = Memory(len(items), size)
+    memory.words[HEAD:HEAD + len(items)] = items
     address, number = ctypes.c_void_p.from_param, ctypes.c_size_t.from_param
     run = functools.partial(
-        call, ctypes.c_char_p.from_param(source), number(len(source)), address(memory.items_at),
-        number(len(pairs) // PAIR), address(memory.bytes_at + FRAME_VALUES), number(size - FRAME_VALUES),
+        call, *(number(it) if isinstance(it, int) else ctypes.c_char_p.from_param(it) for it in front),
+        address(memory.items_at), number(count), address(memory.bytes_at + FRAME_VALUES), number(size - FRAME_VALUES),
         address(memory.head_at), address(memory.fault_at))
     return Frame(run, memory.words, memory.room, memory.bytes_at)
 

@@ -1,68 +1,75 @@
 """Sources and documents, over the calls of the library."""
 from __future__ import annotations
 
-import re
 from abc import ABC, abstractmethod
 from array import array
 from collections import abc
 from itertools import accumulate, chain, cycle
 from operator import itemgetter
-from typing import Any, AnyStr, Callable, Dict, FrozenSet, Generic, Iterable, List, Mapping, Optional, Sequence, Tuple
+from typing import Any, AnyStr, Callable, FrozenSet, Generic, Iterable, List, Mapping, Optional, Sequence, Tuple
 
 from . import _foreign
-from ._library import (DONE, INVALID_DOCUMENT, NOT_CONFIRMED, NOT_UTF8, OUT_OF_MEMORY, REFUSED, ROOM_TOO_SMALL,
-                       library as _library)
-from ._memory import (BYTES, FRAME_SOURCE, FRAME_VALUES, HEAD, NEEDED, PAIR, RECORD, ROW, Encoding, Frame, Memory,
-                      address_of, frame_for, given_back, taken)
+from ._library import (CELL, DONE, INVALID_DOCUMENT, NOT_CONFIRMED, NOT_UTF8, OUT_OF_MEMORY, REFUSED, ROOM_TOO_SMALL,
+                       TOO_LONG, in_c as _in_c, library as _library)
+from ._memory import (BYTES, FRAME_SOURCE, FRAME_VALUES, HEAD, NEEDED, PAIRS, RECORD, ROW, TEXT, VALUES, Encoding,
+                      Frame, Memory, address_of, frame_for, given_back, taken)
 from ._types import DocumentError, FaultKind, ShellError, ShellForm, SubstError, Variable, VariableKind
 
 _Call = Callable[..., int]
 _Joined = Tuple[bytes, List[int], Sequence[int]]
-# The value of an unset variable, and a mapping without values.
+# The value of an unset variable, a mapping without values, and an item of the layout VALUES.
 _ABSENT: Any = object()
-_NONE: Mapping[str, Any] = {}
+NONE: Mapping[Any, Any] = {}
+_VALUE = array('Q', (0, 0, 1))
 # The most bytes that the first buffer of an output has beside the lengths of the source and of the values: for one row,
 # and for several.
 _MORE, _MOST = 1 << 20, 1 << 24
-# The columns of the widest line that is underlined.
-_WIDEST = 60
+# The most dollars of a source whose records are kept, and the most names that are taken one by one.
+_FEW = 64
 
 
 class Filler(ABC, Generic[AnyStr]):
     """A text that is filled in, with the names that are looked up in a mapping."""
 
-    __slots__ = ('encoding', 'encoded', 'length', 'call', 'names', 'all_of', 'uses', 'no_empty', 'pairs', 'held',
-                 'frames', 'is_used')
+    __slots__ = ('encoding', 'encoded', 'length', 'call', 'front', 'names', 'all_of', 'uses', 'no_empty', 'layout',
+                 'items', 'held', 'frames', 'is_used', 'fast')
 
     encoding: Encoding[AnyStr]
     names: Tuple[AnyStr, ...]
     frames: List[Frame]
+    # The expansion by the module in C, if it is there. It returns None unless a dict has values of the right type.
+    fast: Optional[Callable[[Any], Optional[AnyStr]]]
 
     def __init__(self, encoding: Encoding[Any], encoded: bytes, call: _Call, names: Iterable[Any], uses: int,
-                 no_empty: bool) -> None:
-        """Takes a call with the parameters of subst_bytes_into, the names in the order of their lookups, and the most
-        variables that the text may have. With no_empty, an empty value counts as none."""
+                 no_empty: bool, cells: Optional[bytes] = None) -> None:
+        """Takes a call with the parameters of subst_bytes_into, or with cells those of subst_expand, the names in the
+        order of their lookups, and the most variables that the text may have. With no_empty, an empty value counts as
+        none."""
         self.encoding, self.encoded, self.length, self.call, self.uses = encoding, encoded, len(encoded), call, uses
         self.no_empty = no_empty
         self.names = tuple(names)
         self.all_of = _getter(self.names)
-        joined, lengths = encoding.joined(self.names)
-        self.held = bytearray(joined or b'\0')
-        at, pairs = address_of(self.held), array('Q')
-        for length in lengths:
-            pairs.extend((at, length, 0, 0))
-            at += length
-        self.pairs = pairs
+        self.front: Tuple[Any, ...] = (encoded, len(encoded))
+        if cells is None:
+            self.layout = PAIRS
+            self.held, self.items = pairs_of(encoding, self.names)
+        else:
+            self.front = (cells, len(cells) // CELL, *self.front)
+            self.layout, self.held, self.items = VALUES, bytearray(), _VALUE * len(self.names)
         self.frames = []
-        self.is_used = False
+        self.is_used, self.fast = False, None
 
     @abstractmethod
     def refused(self, memory: Memory) -> Exception:
         """Returns the error for the fault that the call left in memory."""
 
     def fill_in(self, variables: Mapping[Any, Any], more: Mapping[str, Any]) -> AnyStr:
-        """Fills in, by a frame if there is one, and returns the output."""
+        """Fills in, by the module in C or by a frame if there is one, and returns the output."""
         values = self.asked(variables, more)
+        if self.fast is not None:
+            output = self.fast({name: value for name, value in zip(self.names, values) if value is not _ABSENT})
+            if output is not None:
+                return output
         lengths: Optional[List[int]]
         # No except clause raises or calls on, so that no error has another one as its context.
         try:
@@ -81,12 +88,13 @@ class Filler(ABC, Generic[AnyStr]):
             pass
         else:
             room[:size] = joined
-            index = HEAD + 2
+            width, index, _ = self.layout
+            index += HEAD
             for length in lengths:
                 words[index] = at
                 words[index + 1] = length
                 at += length
-                index += PAIR
+                index += width
             if run() == DONE:
                 output = self.encoding.decoded(room[FRAME_VALUES:FRAME_VALUES + words[NEEDED]])
                 frames.append(frame)
@@ -98,10 +106,10 @@ class Filler(ABC, Generic[AnyStr]):
         start = len(joined)
         size = start + self.length + min(start * self.uses, start + _MORE)
         while True:
-            memory = taken(len(self.pairs), size)
-            memory.put(self.pairs, joined, lengths, absent)
-            result = self.call(self.encoded, self.length, memory.items_at, len(lengths), memory.bytes_at + start,
-                               memory.size - start, memory.head_at, memory.fault_at)
+            memory = taken(len(self.items), size)
+            memory.put(self.items, self.layout, joined, lengths, absent)
+            result = self.call(*self.front, memory.items_at, len(lengths), memory.bytes_at + start, memory.size - start,
+                               memory.head_at, memory.fault_at)
             if result == DONE:
                 break
             if result != ROOM_TOO_SMALL:
@@ -110,7 +118,8 @@ class Filler(ABC, Generic[AnyStr]):
         output = self.encoding.decoded(memory.room[start:start + memory.words[NEEDED]])
         given_back(memory)
         if self.is_used and not self.frames and self.length <= FRAME_SOURCE:
-            self.frames.append(frame_for(_library[self.call.__name__], self.encoded, self.pairs))
+            self.frames.append(frame_for(_library[self.call.__name__], self.front, self.length, self.items,
+                                         len(self.names)))
         self.is_used = True
         return output
 
@@ -118,7 +127,7 @@ class Filler(ABC, Generic[AnyStr]):
         """Returns the error for a result other than REFUSED, of a call with these values."""
         return _failure(result)
 
-    def asked(self, variables: Mapping[Any, Any], more: Mapping[str, Any] = _NONE) -> Sequence[Any]:
+    def asked(self, variables: Mapping[Any, Any], more: Mapping[str, Any] = NONE) -> Sequence[Any]:
         """Returns the value of each name, or _ABSENT if both have none. Keyword arguments take precedence, but not an
         empty one that counts as none."""
         if type(variables) is dict and not more:
@@ -177,15 +186,13 @@ class Filler(ABC, Generic[AnyStr]):
 class Source(Filler[AnyStr]):
     """A source that is a template."""
 
-    __slots__ = ('given', 'original', 'only', 'is_optional', 'records', 'places')
+    __slots__ = ('given', 'original', 'only', 'is_optional', 'records', 'places', 'pairs')
 
     given: AnyStr
 
     def __init__(self, encoding: Encoding[AnyStr], given: AnyStr, only: Optional[FrozenSet[bytes]] = None,
-                 optional: bool = False, no_empty: bool = False,
-                 names: Optional[Iterable[AnyStr]] = None) -> None:
-        """Raises SubstError if the source is no template. If names are passed, which must be all that have a value,
-        this isn't checked, and the variables aren't listed."""
+                 optional: bool = False, no_empty: bool = False) -> None:
+        """Raises SubstError if the source is no template."""
         original = encoded = encoding.encoded(given)
         self.given = given if isinstance(given, encoding.kind) else encoding.decoded(bytearray(original))
         self.original, self.only, self.is_optional = original, only, optional
@@ -193,66 +200,71 @@ class Source(Filler[AnyStr]):
         if only is not None:
             encoded, starts = _foreign.template_for(original, only.__contains__, optional)
         elif optional:
-            records = _records(encoding, original)
+            records = _records(encoding, original, original.count(b'$'))
             starts = records[1::RECORD]
             encoded = _foreign.with_optional(original, [
                 (start, start + length) for kind, start, length in _triples(records) if kind == VariableKind.REQUIRED])
-        self.records = _records(encoding, encoded) if names is None else array('Q')
+        uses = encoded.count(b'$')
+        cells = _parsed(encoding, encoded, uses)
+        # The records of the variables of the template, unless it is long.
+        self.records = _records(encoding, encoded, uses) if starts or uses <= _FEW else None
         # The offset in the source of each name, by its offset in the template.
-        self.places = dict(zip(self.records[1::RECORD], starts)) if starts else {}
-        if names is None:
-            names = dict.fromkeys(encoding.parts(encoded, self.records[1::RECORD], self.records[2::RECORD]))
-        super().__init__(encoding, encoded, _library.subst_bytes_into, names, encoded.count(b'$'), no_empty)
+        self.places = dict(zip(self.records[1::RECORD], starts)) if starts and self.records else {}
+        super().__init__(encoding, encoded, _library.subst_bytes_into if cells is None else _library.subst_expand,
+                         _names(encoding, encoded, uses, cells, self.records), uses, no_empty, cells)
+        self.pairs: Optional[Tuple[bytearray, array[int]]] = None
+        if _in_c is not None and cells is not None:
+            self.fast = _in_c.template(cells, encoded, self.names, encoding is TEXT, no_empty)
 
     def refused(self, memory: Memory) -> SubstError:
-        return self.error(memory.fault, memory.items_at)
+        return self.error(memory.fault)
 
-    def error(self, fault: Tuple[int, int, int], pairs_at: int, row: Optional[int] = None) -> SubstError:
-        """Returns the error for a fault, with the pairs at this address."""
+    def error(self, fault: Tuple[int, int, int], row: Optional[int] = None) -> SubstError:
+        """Returns the error for a fault of the template."""
         kind, position, length = fault
-        place = self.places.get(position, position)
-        arguments = (self.encoded, self.length, pairs_at, len(self.names))
-        if self.places:
-            shown = underlined(self.original, place, length)
-        else:
-            shown = said(_library.subst_fault_highlighting, *arguments)
-        text = said(_library.subst_fault_text, *arguments)
-        return _error(self.encoding, self.original, (kind, place, length), text, shown, row)
+        return _refused(self.encoding, self.original, (kind, self.places.get(position, position), length), row)
 
     def fill_in_each(self, rows: Iterable[Mapping[Any, Any]]) -> List[AnyStr]:
+        if self.fast is not None:
+            rows = [*rows]
+            outputs = [output for output in map(self.fast, rows) if output is not None]
+            if len(outputs) == len(rows):
+                return outputs
         asked: List[Sequence[Any]] = [self.asked(variables) for variables in rows]
         count = len(asked)
         values, lengths, absent = self.joined([*chain.from_iterable(asked)])
-        pairs, start, width = self.pairs * count, len(values), 8 * len(self.pairs)
+        items, start, width = self.items * count, len(values), 8 * len(self.items)
         size = start + min(count * self.length + start * self.uses, start + _MOST)
-        rows_from, ends_from = HEAD + len(pairs), HEAD + len(pairs) + 2 * count
+        rows_from, ends_from = HEAD + len(items), HEAD + len(items) + 2 * count
+        call = _library.subst_expand_each if self.layout is VALUES else _library.subst_bytes_each
         while True:
-            memory = Memory(len(pairs) + 3 * count, size)
-            memory.put(pairs, values, lengths, absent)
+            memory = Memory(len(items) + 3 * count, size)
+            memory.put(items, self.layout, values, lengths, absent)
             memory.words[rows_from:ends_from:2] = array('Q', [memory.items_at + width * row for row in range(count)])
             memory.words[rows_from + 1:ends_from:2] = array('Q', [len(self.names)]) * count
-            result = _library.subst_bytes_each(
-                self.encoded, self.length, memory.head_at + 8 * rows_from, count, memory.bytes_at + start,
-                memory.size - start, memory.head_at + 8 * ends_from, count, memory.head_at, memory.head_at + 8 * ROW,
-                memory.fault_at)
+            result = call(*self.front, memory.head_at + 8 * rows_from, count, memory.bytes_at + start,
+                          memory.size - start, memory.head_at + 8 * ends_from, count, memory.head_at,
+                          memory.head_at + 8 * ROW, memory.fault_at)
             if result == DONE:
                 output = memory.room[start:start + memory.words[NEEDED]]
                 return self.encoding.cut(output, memory.words[ends_from:])
             if result != ROOM_TOO_SMALL:
-                row = memory.words[ROW]
-                raise self.error(memory.fault, memory.items_at + width * row, row) if result == REFUSED \
-                    else _failure(result)
+                raise self.error(memory.fault, memory.words[ROW]) if result == REFUSED else _failure(result)
             size = start + memory.words[NEEDED]
 
     def variables(self) -> List[Variable[AnyStr]]:
-        return self.listed(self.records)
+        records = self.records
+        return self.listed(_records(self.encoding, self.encoded, self.uses) if records is None else records)
 
     def missing(self, variables: Mapping[Any, Any], more: Mapping[str, Any]) -> List[Variable[AnyStr]]:
         values, lengths, absent = self.joined(self.asked(variables, more))
-        memory, found = taken(len(self.pairs), len(values)), Memory(len(self.records), 0)
-        memory.put(self.pairs, values, lengths, absent)
+        if self.pairs is None:
+            self.pairs = pairs_of(self.encoding, self.names)
+        _, pairs = self.pairs
+        memory, found = taken(len(pairs), len(values)), Memory(RECORD * self.uses, 0)
+        memory.put(pairs, PAIRS, values, lengths, absent)
         result = _library.subst_missing(self.encoded, self.length, memory.items_at, len(lengths), found.items_at,
-                                        len(self.records) // RECORD, found.head_at, found.fault_at)
+                                        self.uses, found.head_at, found.fault_at)
         if result != DONE:
             raise _failure(result)
         given_back(memory)
@@ -292,8 +304,8 @@ class Document(Filler[AnyStr]):
         """Returns the error for this result, also for a document or a value, in bytes, that isn't UTF-8."""
         if result != NOT_UTF8:
             return _failure(result)
-        ends = [*accumulate(lengths)]
-        values = [joined[start:end] for start, end in zip([0, *ends], ends)]
+        ends: List[int] = [*accumulate(lengths)]
+        values: List[bytes] = [joined[start:end] for start, end in zip([0, *ends], ends)]
         for name, data in zip((None, *self.names), (self.encoded, *values)):
             try:
                 data.decode()
@@ -302,14 +314,6 @@ class Document(Filler[AnyStr]):
                     return DocumentError('invalid UTF-8', *span(self.encoding, data, error.start, 1))
                 return _named(error, name)
         return _failure(result)
-
-
-def fill_in_large(encoding: Encoding[AnyStr], given: AnyStr, variables: Dict[Any, Any]) -> AnyStr:
-    """Fills in a large source from few variables. All are passed to the library, and the names of the source aren't
-    listed. Raises TypeError or UnicodeEncodeError if one has a wrong type or a lone surrogate, used or not."""
-    items = [*variables.items()]
-    source: Source[AnyStr] = Source(encoding, given, names=[name for name, _ in items])
-    return source.fill_in_joined(*encoding.joined([value for _, value in items]), ())
 
 
 def _getter(names: Sequence[Any]) -> Callable[[Mapping[Any, Any]], Sequence[Any]]:
@@ -326,7 +330,7 @@ def check(encoding: Encoding[Any], source: bytes) -> None:
     memory = taken(0, 0)
     result = _library.subst_check(source, len(source), memory.fault_at)
     if result != DONE:
-        raise _fault_alone(encoding, source, memory) if result == REFUSED else _failure(result)
+        raise _refused(encoding, source, memory.fault) if result == REFUSED else _failure(result)
     given_back(memory)
 
 
@@ -341,13 +345,60 @@ def from_shell(encoding: Encoding[AnyStr], text: bytes) -> AnyStr:
     raise ShellError(said(_library.subst_shell_form_text, form), ShellForm(form), *span(encoding, text, position, 1))
 
 
-def _records(encoding: Encoding[Any], source: bytes) -> array[int]:
-    """Returns the records of the variables of a source, which has at most as many as dollars."""
-    count = source.count(b'$')
+def _parsed(encoding: Encoding[Any], source: bytes, uses: int) -> Optional[bytes]:
+    """Returns the cells of a source with this many dollars, or None if it is too long for them. Raises SubstError if it
+    is no template."""
+    memory = taken(6 * uses, 0)
+    while True:
+        most = (len(memory.words) - HEAD) // 2
+        result = _library.subst_parse(source, len(source), 0, memory.items_at, most, memory.head_at, memory.fault_at)
+        if result == DONE:
+            cells = memory.words[HEAD:HEAD + 2 * memory.words[NEEDED]].tobytes()
+            given_back(memory)
+            return cells
+        if result == TOO_LONG:
+            return None
+        if result != ROOM_TOO_SMALL:
+            raise _refused(encoding, source, memory.fault) if result == REFUSED else _failure(result)
+        memory = Memory(2 * memory.words[NEEDED], 0)
+
+
+def _names(encoding: Encoding[AnyStr], source: bytes, uses: int, cells: Optional[bytes],
+           records: Optional[array[int]]) -> Iterable[AnyStr]:
+    """Returns the names of a template with this many dollars, in the order of their numbers: by its records, or one by
+    one if it has none and the names are few."""
+    size = 0 if cells is None else len(cells) // CELL
+    count = _library.subst_template_variables(cells, size) if size and records is None else 0
+    if not 0 < count <= _FEW:
+        records = _records(encoding, source, uses) if records is None else records
+        return dict.fromkeys(encoding.parts(source, records[1::RECORD], records[2::RECORD]))
+    memory = taken(RECORD, 0)
+    names = []
+    for number in range(count):
+        _library.subst_template_variable(cells, size, source, len(source), number, memory.items_at)
+        _, start, length = memory.words[HEAD:HEAD + RECORD]
+        names.append(encoding.decoded(bytearray(source[start:start + length])))
+    given_back(memory)
+    return names
+
+
+def pairs_of(encoding: Encoding[Any], names: Sequence[Any]) -> Tuple[bytearray, array[int]]:
+    """Returns the bytes of names, and pairs of these with no values."""
+    joined, lengths = encoding.joined(names)
+    held = bytearray(joined or b'\0')
+    at, pairs = address_of(held), array('Q')
+    for length in lengths:
+        pairs.extend((at, length, 0, 0))
+        at += length
+    return held, pairs
+
+
+def _records(encoding: Encoding[Any], source: bytes, count: int) -> array[int]:
+    """Returns the records of the variables of a source, which has at most as many as these dollars."""
     memory = taken(RECORD * count, 0)
     result = _library.subst_variables(source, len(source), memory.items_at, count, memory.head_at, memory.fault_at)
     if result != DONE:
-        raise _fault_alone(encoding, source, memory) if result == REFUSED else _failure(result)
+        raise _refused(encoding, source, memory.fault) if result == REFUSED else _failure(result)
     found = memory.words[HEAD:HEAD + RECORD * memory.words[NEEDED]]
     given_back(memory)
     return found
@@ -370,11 +421,17 @@ def _failure(result: int) -> Exception:
     return MemoryError('subst is out of memory')
 
 
-def _fault_alone(encoding: Encoding[Any], source: bytes, memory: Memory) -> SubstError:
-    """Returns the error for a fault of a source with any variables."""
-    text, shown = (said(call, source, len(source), None, 0)
-                   for call in (_library.subst_fault_text, _library.subst_fault_highlighting))
-    return _error(encoding, source, memory.fault, text, shown)
+def _refused(encoding: Encoding[Any], source: bytes, fault: Tuple[int, int, int],
+             row: Optional[int] = None) -> SubstError:
+    """Returns the error for a fault of a source."""
+    return _error(encoding, source, fault, *error_texts(source, fault), row)
+
+
+def error_texts(source: bytes, fault: Tuple[int, int, int]) -> Tuple[str, str]:
+    """Returns the text of a fault, and its line with the fault underlined."""
+    words = array('Q', fault)
+    arguments = source, len(source), words.buffer_info()[0]
+    return said(_library.subst_error_text, *arguments), said(_library.subst_error_highlighting, *arguments)
 
 
 def _error(encoding: Encoding[Any], source: bytes, fault: Tuple[int, int, int], text: str, shown: str = '',
@@ -419,16 +476,6 @@ def _place(source: bytes, offset: int) -> Tuple[Optional[int], Optional[int]]:
     line, column = memory.words[HEAD:HEAD + 2]
     given_back(memory)
     return line, column
-
-
-def underlined(source: bytes, position: int, length: int) -> str:
-    """Returns the line of a name, underlined as the library does it, or an empty text if the library shows none."""
-    line, column = _place(source, position)
-    if line is None or column is None:
-        return ''
-    text = re.split(b'\r\n|\r|\n', source)[line - 1]
-    _, end = _place(text, len(text))
-    return f'  {text.decode()}\n  {" " * (column - 1)}{"^" * length}\n' if end and end <= _WIDEST + 1 else ''
 
 
 def _indices(encoding: Encoding[Any], source: bytes, offsets: Iterable[int]) -> List[int]:

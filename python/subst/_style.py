@@ -7,7 +7,7 @@ from typing import AnyStr, FrozenSet, Optional
 from . import _foreign
 from ._library import ALL_NAMES, DONE, KNOWN_NAMES, ONLY_NAMES, REFUSED_FORM, ROOM_TOO_SMALL, library as _library
 from ._memory import Encoding, Memory, address_of
-from ._source import Filler, said, span, underlined
+from ._source import Filler, error_texts, said, span
 from ._types import FaultKind, Forms, ShellError, ShellForm, SubstError
 
 # The words of a fault of a text: its kind and form, its position and length, and those of its message.
@@ -46,13 +46,13 @@ class Text(Filler[AnyStr]):
         if word & 0xffffffff == REFUSED_FORM:
             form = ShellForm(word >> 32)
             return ShellError(said(_library.subst_shell_form_text, form), form, *place)
-        source = b'$' + self.encoded[position:position + length]
-        name, index = source[1:].decode(), self.names.index(self.encoding.decoded(bytearray(source[1:])))
-        text = f'${name} is empty' if memory.has_value(index) \
-            else said(_library.subst_fault_text, source, len(source), None, 0)
+        data = self.encoded[position:position + length]
+        name, index = data.decode(), self.names.index(self.encoding.decoded(bytearray(data)))
+        text, shown = error_texts(self.encoded, (FaultKind.NO_SUCH_VARIABLE, position, length))
+        text = f'${name} is empty' if memory.has_value(index) else text
         message = self.expanded(self.encoded[message_at:message_at + message_length], memory).decode(errors='replace')
-        return SubstError(f'{text}: {message}' if message else text, FaultKind.NO_SUCH_VARIABLE, *place,
-                          underlined(self.encoded, position, length), None, name)
+        return SubstError(f'{text}: {message}' if message else text, FaultKind.NO_SUCH_VARIABLE, *place, shown, None,
+                          name)
 
     def expanded(self, message: bytes, memory: Memory) -> bytes:
         """Returns a message with its variables filled in from the pairs in memory, or as it is if it is refused."""
