@@ -1,0 +1,9 @@
+pub mod ListLemmas
+pub mod ColumnLemmas
+pub mod RowLemmas
+pub mod LineLemmas
+pub mod QuoteLemmas
+pub mod RecordsLemmas
+pub mod TableLemmas
+pub mod JsonLineLemmas
+pub mod JsonRowLemmas

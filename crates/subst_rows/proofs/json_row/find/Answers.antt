@@ -1,0 +1,48 @@
+-- By the member at the index, and those before it.
+use Rattle.std.proofs.Common.{◌≡◌, ◌+◌, ◌-◌, [], ◌∷◌, ◌++◌, take, Bool, true, false, cond, Some, sym, ap, ◌∙◌, arith}
+use Rattle.std.proofs.lemmas.List.{take_more}
+use Rattle.std.specs.Str.{bytes_eq}
+use Rattle.json.specs.Find.{get_member}
+use Rattle.json.specs.Value.{value_view, members_view}
+use Rattle.json.proofs.Trees.{get_member-push}
+use Rattle.subst_rows.proofs.json_row.find.Goals as goal
+
+pub returns-then-eq : goal.returns-then-eq
+returns-then-eq c =
+    let xs = c.args.members.now.items in
+    let i = c.loop-left.left - 1 in
+    let m = c.index-member.result.now in
+    let key = c.args.key.now in
+    let next : c.loop-left.left ≡ i + 1 = omega arith in
+    let front : take c.loop-left.left xs ≡ take i xs ++ m ∷ [] =
+    ap (λ k. take k xs) next ∙ take_more xs i m (omega arith)
+    ∙ ap (λ y. take i xs ++ y ∷ []) (sym c.index-member.ensures)
+    in
+    let step = c.loop-left.invariant.found ∙ ap (λ ys. get_member key (members_view ys)) front
+    ∙ get_member-push key (take i xs) m
+    in
+    let pick = λ (b : Bool). cond b (Some (value_view m.1)) (get_member key (members_view (take i xs))) in
+    let same : bytes_eq m.0.now key ≡ true =
+    ap (λ it. bytes_eq it key) (sym c.as_bytes.ensures.value) ∙ sym c.if-eq.ensures
+    in
+    sym (step ∙ ap pick same)
+
+pub loop-left-preserved : goal.loop-left-preserved
+loop-left-preserved c =
+    let xs = c.args.members.now.items in
+    let i = c.loop-left.left - 1 in
+    let m = c.index-member.result.now in
+    let key = c.args.key.now in
+    let next : c.loop-left.left ≡ i + 1 = omega arith in
+    let front : take c.loop-left.left xs ≡ take i xs ++ m ∷ [] =
+    ap (λ k. take k xs) next ∙ take_more xs i m (omega arith)
+    ∙ ap (λ y. take i xs ++ y ∷ []) (sym c.index-member.ensures)
+    in
+    let step = c.loop-left.invariant.found ∙ ap (λ ys. get_member key (members_view ys)) front
+    ∙ get_member-push key (take i xs) m
+    in
+    let pick = λ (b : Bool). cond b (Some (value_view m.1)) (get_member key (members_view (take i xs))) in
+    let other : bytes_eq m.0.now key ≡ false =
+    ap (λ it. bytes_eq it key) (sym c.as_bytes.ensures.value) ∙ sym c.if-eq.ensures
+    in
+    record { found = step ∙ ap pick other; within = omega arith }
