@@ -1,10 +1,10 @@
 #!/usr/bin/env python3
 """run.py [--runs N] [--only WORD] [--write] [TABLE ..]   Times the programs and counts the instructions of the library.
 
-Prints these tables of RESULTS.md, or all, as Markdown: times, process, programs, texts, letters, growth, hostile, json,
-toml and, as SVG, chart. README.md describes them. With --only, uses only those inputs of inputs.py that have this word
-in their titles or as their name, and the empty one. With --write, puts the tables into RESULTS.md and the chart into
-chart.svg.
+Prints these tables of RESULTS.md, or all, as Markdown: times, process, programs, texts, letters, calls, growth,
+hostile, json, toml and, as SVG, chart. README.md describes them. With --only, uses only those inputs of inputs.py that
+have this word in their titles or as their name, and the empty one. With --write, puts the tables into RESULTS.md and
+the chart into chart.svg.
 """
 import argparse
 import contextlib
@@ -35,6 +35,8 @@ OTHERS = ("cat", "envsubst", "perl", "string.Template")
 SIMPLE = ("envsubst", "perl", "string.Template")
 # The works of the library: to parse, to expand, and both.
 WORKS = ("parse", "expand", "both")
+# The works of calls.c.
+CALLS = ("bytes", "parse", "expand", "each")
 # A quarter of a program's stack limit may be arguments: enough for those of 100,000 variables.
 STACK = 16 * MIB
 # The folder of files for the runs.
@@ -383,6 +385,34 @@ def rows_of_growth(family, options):
         size, before = later_size, more
 
 
+@functools.lru_cache(None)
+def calls_program():
+    """Returns the path of the program that calls the library for C, which is proved and built if it has changed."""
+    prefix, path = FOLDER / "prefix", FOLDER / "calls"
+    subprocess.run([HERE.parent / "tools/install", "--library", prefix], check=True, stdout=sys.stderr)
+    subprocess.run([os.environ.get("CC") or "cc", "-O2", "-Wall", "-Wextra", "-Werror", "-o", path, HERE / "calls.c",
+                    f"-I{prefix}/include", prefix / "lib/libsubst.a"], check=True)
+    return path
+
+
+def calls(workload, work):
+    """Returns the instructions of a call of the library for C."""
+    pairs = FOLDER / "pairs"
+    pairs.write_text("".join(f"{word}\n" for word in words(workload)), encoding="utf-8")
+    rounds = max(1, min(200, MIB // len(workload.input.source)))
+    few, many = (run_on(workload.input.source, calls_program(), work, str(1 + more), FOLDER / "source", pairs)
+                 for more in (0, rounds))
+    return (instructions(many) - instructions(few)) / rounds
+
+
+def table_of_calls(options):
+    rows = [[it.title, *(amount(calls(it, work)) for work in CALLS)]
+            for it in named(options, ["s20", "configuration", "letter4k", "variables"])]
+    title = ("Instructions of calls from C: `subst_bytes_into`, `subst_template_new`, `subst_expand` of a template that "
+             "is kept, and a row of `subst_bytes_each`:")
+    return title, ["Input", *CALLS], rows
+
+
 def table_of_growth(options):
     families = [[(size, it) for size, it in family if chosen(options, [it])] for family in FAMILIES]
     title = (f"Growth: milliseconds of `{OURS}`, its instructions, and those of `substitute_bytes`, and of the Rust "
@@ -432,6 +462,7 @@ TABLES = {
     "programs": table_of_programs,
     "texts": table_of_texts,
     "letters": table_of_letters,
+    "calls": table_of_calls,
     "growth": table_of_growth,
     "hostile": table_of_hostile_sources,
     "json": functools.partial(table_of_trees, "json"),
