@@ -304,6 +304,26 @@ static uint32_t result_of(uint32_t result, struct answer *told)
 CALL_BY_STYLE(bytes_by_style)
 CALL_BY_STYLE(text_by_style)
 
+/* The number of names that the last parse of a document told, and its value if none was told. */
+static size_t counted;
+
+#define CALLS_BY_NAMES(name)                                                                                   \
+    static uint32_t make_##name##_parse(const struct input *input, void *buffer, size_t buffer_len,            \
+                                        struct answer *told)                                                   \
+    {                                                                                                          \
+        uint32_t result;                                                                                       \
+        counted = UNTOLD;                                                                                      \
+        result = subst_##name##_parse(SOURCE, buffer, buffer_len, ENDS, &told->needed, &counted, &told->fault); \
+        EXPECT(result == SUBST_DONE || result == SUBST_ROOM_TOO_SMALL || counted == UNTOLD);                   \
+        return result;                                                                                         \
+    }                                                                                                          \
+    static const struct call call_##name##_parse = {make_##name##_parse, 1, 0};                                \
+    CALL(name##_expand, uint8_t, 0, SOURCE, VALUES, buffer, buffer_len, &told->needed, &told->fault)
+
+CALLS_BY_NAMES(json)
+CALLS_BY_NAMES(toml)
+CALLS_BY_NAMES(yaml)
+
 /* The number of calls that were out of memory. */
 static unsigned long times_out_of_memory;
 
@@ -1282,6 +1302,172 @@ static void try_templates(const struct input *given, const struct answer *answer
     free(variables.block);
 }
 
+/* Documents by names */
+
+/* Fails unless names are there once each, of bytes of names. Writes their values by number, and the pairs that have
+ * these. Returns the number of pairs. */
+static size_t number_names(const struct input *of_names, const size_t *ends, size_t count, struct subst_value *values,
+                           struct subst_pair *pairs)
+{
+    size_t pairs_len = 0, i, j;
+    struct subst_variable name = {0, 0, SUBST_REQUIRED}, other = name;
+    for (i = 0; i < count; i++, name.position += name.length) {
+        const struct subst_pair *pair;
+        EXPECT(ends[i] > name.position && ends[i] <= of_names->source_len);
+        name.length = ends[i] - name.position;
+        for (j = name.position; j < ends[i]; j++)
+            EXPECT(is_name_byte(of_names->source[j]));
+        for (j = 0, other.position = 0; j < i; other.position = ends[j++]) {
+            other.length = ends[j] - other.position;
+            EXPECT(!is_same_name(of_names, &name, &other));
+        }
+        pair = pair_of(of_names, name.position, name.length);
+        values[i] = value_of(pair);
+        if (pair != NULL)
+            pairs[pairs_len++] = *pair;
+    }
+    EXPECT(name.position == of_names->source_len);
+    return pairs_len;
+}
+
+/* Fails unless values by number do what pairs do, also without those at their end that are no value, and only a missing
+ * variable is refused. */
+static void expect_as_pairs(const struct call *fill_in, const struct call *expand, const struct input *given)
+{
+    struct answer none = asked(fill_in, given, 0), answer = asked(fill_in, given, none.needed);
+    struct input input = *given;
+    EXPECT(answer.result != SUBST_REFUSED || answer.fault.kind == SUBST_NO_SUCH_VARIABLE);
+    expect(expand, &input, &answer, answer.needed);
+    while (input.values_len > 0 && input.values[input.values_len - 1].given != SUBST_SET)
+        input.values_len -= 1;
+    expect(expand, &input, &answer, input.buffer_len);
+    free(none.block);
+    free(answer.block);
+}
+
+/* Fails unless the names of the pairs are in the order of their use, if the document has no backslash and no brace: the
+ * first name without a value is missing. */
+static void expect_in_order(const struct call *expand, const struct input *given)
+{
+    struct input input = *given;
+    if (memchr(input.source, '\\', input.source_len) != NULL || memchr(input.source, '{', input.source_len) != NULL)
+        return;
+    for (input.values_len = 0; input.values_len < input.pairs_len; input.values_len++) {
+        const struct subst_pair *pair = &input.pairs[input.values_len];
+        struct answer answer = asked(expand, &input, 0);
+        EXPECT(answer.fault.kind == SUBST_NO_SUCH_VARIABLE && answer.fault.length == pair->name_len);
+        EXPECT(memcmp(input.source + answer.fault.position, pair->name, pair->name_len) == 0);
+        free(answer.block);
+    }
+}
+
+/* Tries the values of all names, with the given pairs and a value too many if these are texts; those of the first names
+ * alone; and a value for each name. */
+static void try_numbered(const struct call *fill_in, const struct call *expand, const struct input *given,
+                         const struct answer *names, const size_t *ends)
+{
+    const struct subst_value more = {"\"\n", 2, SUBST_SET};
+    const size_t count = given->rows_len, half = count / 2;
+    struct subst_value *values = taken((count + 1) * sizeof values[0]);
+    struct subst_pair *pairs = taken(count * sizeof pairs[0]);
+    struct input of_names = *given, input = *given;
+    struct answer none, answer;
+    size_t pairs_len, i;
+    input.ends = NULL;
+    of_names.source = names->items;
+    of_names.source_len = names->needed;
+    pairs_len = number_names(&of_names, ends, count, values, pairs);
+    values[count] = more;
+    input.values = values;
+    input.values_len = count + (size_t)are_texts(given);
+    if (!are_texts(given)) {
+        input.pairs = pairs;
+        input.pairs_len = pairs_len;
+    }
+    expect_as_pairs(fill_in, expand, &input);
+    input.pairs = pairs;
+    input.pairs_len = pairs_len;
+    input.values_len = count;
+    for (i = half; i < count; i++) {
+        input.pairs_len -= values[i].given == SUBST_SET;
+        values[i].given = i % 2 == 0 ? SUBST_UNSET : SUBST_NOT_ASKED;
+    }
+    expect_as_pairs(fill_in, expand, &input);
+    for (i = 0; i < count; i++) {
+        const size_t start = i > 0 ? ends[i - 1] : 0;
+        const struct subst_pair pair = {names->items + start, ends[i] - start, more.bytes, more.length};
+        pairs[i] = pair;
+        values[i] = more;
+    }
+    input.pairs_len = input.values_len = count;
+    none = asked(fill_in, &input, 0);
+    answer = asked(fill_in, &input, none.needed);
+    EXPECT(answer.result == SUBST_DONE);
+    expect(expand, &input, &answer, answer.needed + 3);
+    expect(expand, &input, &answer, answer.needed - (answer.needed > 0));
+    free(none.block);
+    free(answer.block);
+    expect_in_order(expand, &input);
+    free(values);
+    free(pairs);
+}
+
+/* Fails unless a document without names is refused for the same fault with any values, and with pairs too, unless a
+ * variable is missing before it. A value that isn't UTF-8 is refused first. */
+static void try_nameless(const struct call *fill_in, const struct call *expand, const struct input *given,
+                         const struct answer *names)
+{
+    const struct answer *wanted = are_texts(given) ? names : &NO_TEXT;
+    struct subst_value values[MOST_PAIRS];
+    struct input input = *given;
+    struct answer answer = asked(fill_in, given, given->buffer_len);
+    size_t i;
+    EXPECT(names->result == (is_utf8(given->source, given->source_len) ? SUBST_REFUSED : SUBST_NOT_UTF8));
+    EXPECT(names->fault.kind != SUBST_NO_SUCH_VARIABLE && answer.result == wanted->result);
+    if (answer.fault.kind == SUBST_NO_SUCH_VARIABLE)
+        EXPECT(answer.fault.position < names->fault.position);
+    else
+        EXPECT(IS_SAME(&answer.fault, &wanted->fault));
+    for (i = 0; i < given->pairs_len; i++)
+        values[i] = value_of(&given->pairs[i]);
+    input.values = values;
+    expect(expand, &input, names, given->buffer_len);
+    input.values_len = given->pairs_len;
+    expect(expand, &input, wanted, given->buffer_len);
+    free(answer.block);
+}
+
+/* Tries the names of a document in buffers and with ends of each length, and then its values by number. */
+static void try_names(const struct call *fill_in, const struct call *parse, const struct call *expand,
+                      const struct input *given)
+{
+    struct input input = *given;
+    struct answer none = asked(parse, &input, 0), names;
+    const int has_names = none.result == SUBST_DONE || none.result == SUBST_ROOM_TOO_SMALL;
+    const size_t count = counted;
+    uint8_t *block;
+    size_t lengths[ROOMS + 2], i;
+    input.rows_len = input.ends_len = has_names ? count : 0;
+    block = guarded(input.rows_len * sizeof input.ends[0]);
+    input.ends = (size_t *)(void *)(block + GUARD);
+    names = asked(parse, &input, none.needed);
+    EXPECT((names.result == SUBST_DONE) == has_names);
+    lengths[ROOMS] = lengths[ROOMS + 1] = names.needed;
+    buffers_for(lengths, &input, names.needed);
+    for (i = 0; i < ROOMS + 2; i++) {
+        const size_t change = i < ROOMS ? 0 : i == ROOMS ? 1 : 0 - (size_t)(input.rows_len > 0);
+        expect_rows(parse, &input, &names, input.ends, lengths[i], input.rows_len + change);
+        EXPECT(counted == count);
+    }
+    if (has_names)
+        try_numbered(fill_in, expand, &input, &names, input.ends);
+    else
+        try_nameless(fill_in, expand, given, &names);
+    free(none.block);
+    free(names.block);
+    free(block);
+}
+
 /* Inputs */
 
 /* Reads an input: numbers of one byte, 0 if none is left, and then this many bytes for each word, or as many as are
@@ -1369,8 +1555,11 @@ int LLVMFuzzerTestOneInput(const uint8_t *data, size_t size)
     try_shell(&input);
     try_styles(&input);
     try_document(&call_json, &call_json_fault_text, &input);
+    try_names(&call_json, &call_json_parse, &call_json_expand, &input);
     try_document(&call_toml, &call_toml_fault_text, &input);
+    try_names(&call_toml, &call_toml_parse, &call_toml_expand, &input);
     try_document(&call_yaml, &call_yaml_fault_text, &input);
+    try_names(&call_yaml, &call_yaml_parse, &call_yaml_expand, &input);
     try_templates(&input, &answer);
     free(answer.block);
     end_input(&input, data + size);

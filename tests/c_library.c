@@ -106,6 +106,34 @@ static void test_yaml(void)
     EXPECT(subst_yaml("\xC3", 1, NULL, 0, buffer, ROOM, &needed, &fault) == SUBST_NOT_UTF8);
 }
 
+typedef uint32_t naming(const void *source, size_t source_len, void *buffer, size_t buffer_len, size_t *ends,
+                        size_t ends_len, size_t *needed, size_t *count, struct subst_fault *fault);
+typedef uint32_t numbering(const void *source, size_t source_len, const struct subst_value *values, size_t values_len,
+                           void *buffer, size_t buffer_len, size_t *needed, struct subst_fault *fault);
+
+/* Tests a document whose name a is spelled with an escape, and no bytes, which are no document of JSON alone. */
+static void test_names(const char *name, naming *parse, numbering *expand, const char *source, const char *output)
+{
+    const struct subst_value value = {"1", 1, SUBST_SET};
+    const uint32_t empty = *source == '[' ? SUBST_REFUSED : SUBST_DONE;
+    const size_t length = strlen(source), output_len = strlen(output);
+    struct subst_fault fault = {0, 0, 0};
+    size_t needed = 0, count = 0, end = 0;
+    char buffer[ROOM];
+    tested = name;
+    EXPECT(parse(NULL, 0, NULL, 0, NULL, 0, &needed, &count, &fault) == empty && needed == 0 && count == 0);
+    EXPECT(expand(NULL, 0, NULL, 0, NULL, 0, &needed, &fault) == empty && needed == 0);
+    EXPECT(fault.kind == (empty == SUBST_DONE ? 0 : SUBST_INVALID_DOCUMENT));
+    EXPECT(parse(source, length, NULL, 0, NULL, 0, &needed, &count, &fault) == SUBST_ROOM_TOO_SMALL && needed == 1
+           && count == 1);
+    EXPECT(parse(source, length, buffer, 1, &end, 1, &needed, &count, &fault) == SUBST_DONE && buffer[0] == 'a'
+           && end == 1);
+    EXPECT(expand(source, length, &value, 1, buffer, ROOM, &needed, &fault) == SUBST_DONE && needed == output_len
+           && memcmp(buffer, output, output_len) == 0);
+    EXPECT(expand(source, length, NULL, 0, NULL, 0, &needed, &fault) == SUBST_REFUSED
+           && fault.kind == SUBST_NO_SUCH_VARIABLE && fault.position == length - 9 && fault.length == 6);
+}
+
 /* Gets the value of $a, and none of any other name. */
 static int get_a(void *context, const char *name, size_t name_len, struct subst_value *value)
 {
@@ -295,6 +323,9 @@ int main(int argc, char **argv)
     test_filling("subst_bytes_into", subst_bytes_into);
     test_filling("subst_text_into", subst_text_into);
     test_styles();
+    test_names("subst_json_parse", subst_json_parse, subst_json_expand, "[\"${\\u0061}\"]", "[\"1\"]");
+    test_names("subst_toml_parse", subst_toml_parse, subst_toml_expand, "a = \"${\\u0061}\"\n", "a = \"1\"\n");
+    test_names("subst_yaml_parse", subst_yaml_parse, subst_yaml_expand, "- \"${\\u0061}\"\n", "- \"1\"\n");
     tested = "";
     test_rows_and_lists();
     test_documents_and_faults();

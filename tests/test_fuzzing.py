@@ -17,7 +17,7 @@ STRICT = ('-std=c99', '-g', '-O1', '-Wall', '-Wextra', '-Werror')
 # The seconds and the seed of libFuzzer.
 SECONDS, SEED = 60, 1
 # The most requests for memory of any input.
-MOST_REQUESTS = 5000
+MOST_REQUESTS = 10000
 
 
 def built(*options, compiler=CC, library='libsubst.a'):

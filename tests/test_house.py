@@ -20,7 +20,7 @@ LINES = {'README.md': 172, 'docs/DESIGN.md': 160, 'docs/DEFINITIONS.md': 200, 'd
          'docs/CONTRIBUTING.md': 200, 'docs/decisions/[0-9]*.md': 40}
 # The most words of README.md and of the pages that are no decisions, lines of code, of definitions and proofs, and of
 # scripts, and crates; the patterns of scripts, and the ends of other files' names beside them.
-SIZES = {'words of pages': 16100, '.rt': 48700, '.antt': 54000, 'scripts': 17700, 'crates': 26}
+SIZES = {'words of pages': 16100, '.rt': 48700, '.antt': 54000, 'scripts': 17900, 'crates': 26}
 SCRIPTS = ('tools/*', 'tests/[!d]*', 'fuzz/*', 'python/*', 'benches/*')
 NO_SCRIPTS = ('.rt', '.antt', '.md', '.svg', '.tsv', '.txt', 'args', 'stdin', 'stdout')
 # The most files with an option of subst, and with the text of a fault.
