@@ -292,17 +292,17 @@ static uint32_t result_of(uint32_t result, struct answer *told)
     return result;
 }
 
-#define CALL_BY_STYLE(name)                                                                                    \
+#define CALL_BY_STYLE(name, ...)                                                                               \
     static uint32_t make_##name(const struct input *input, void *buffer, size_t buffer_len, struct answer *told)   \
     {                                                                                                          \
         reported = UNREPORTED;                                                                                 \
-        return result_of(subst_##name(SOURCE, &input->style, PAIRS, buffer, buffer_len, &told->needed, &reported), \
-                         told);                                                                                \
+        return result_of(subst_##name(SOURCE, &input->style, __VA_ARGS__, &told->needed, &reported), told);     \
     }                                                                                                          \
     static const struct call call_##name = {make_##name, 1, 0};
 
-CALL_BY_STYLE(bytes_by_style)
-CALL_BY_STYLE(text_by_style)
+CALL_BY_STYLE(bytes_by_style, PAIRS, buffer, buffer_len)
+CALL_BY_STYLE(text_by_style, PAIRS, buffer, buffer_len)
+CALL_BY_STYLE(template_by_style, buffer, buffer_len)
 
 /* The number of names that the last parse of a document told, and its value if none was told. */
 static size_t counted;
@@ -601,6 +601,7 @@ static void try_styles(const struct input *given)
     input.style = first;
     input.style.names = SUBST_NAMES_KNOWN + 1;
     expect(&call_bytes_by_style, &input, &NO_STYLE, input.buffer_len);
+    expect(&call_template_by_style, &input, &NO_STYLE, input.buffer_len);
     input.style = first;
     input.style.unset = UINT32_MAX;
     expect(&call_text_by_style, &input, are_texts(&input) ? &NO_STYLE : &NO_TEXT, input.buffer_len);
@@ -879,6 +880,14 @@ static void try_place(const struct input *input, const struct answer *answer)
 /* The state of random numbers, which depend on the input alone. */
 static uint32_t random_state;
 
+static void seed(void)
+{
+    size_t at;
+    random_state = (uint32_t)tried_len;
+    for (at = 0; at < tried_len; at++)
+        random_state = (random_state ^ tried[at]) * 16777619u;
+}
+
 static uint32_t some(uint32_t below)
 {
     random_state = random_state * 1664525u + 1013904223u;
@@ -1108,6 +1117,48 @@ static void try_no_optional(const struct input *given, const struct answer *cell
     free(source);
 }
 
+/* Fails unless the value of a text's variable is adapted for a name with this digit of a question, or 0 for none. */
+static void expect_adapted(uint32_t forms, uint8_t question, const struct subst_value *old,
+                           const struct subst_value *value)
+{
+    const int may_change = forms >= SUBST_FORMS_SHELL && question != '1' && old->given != SUBST_NOT_ASKED;
+    const int is_none = old->given != SUBST_SET || (question != '2' && old->length == 0);
+    if (!may_change || (question == 0 && !is_none))
+        EXPECT(value->given == old->given && value->bytes == old->bytes && value->length == old->length);
+    else if (question != 0 && is_none)
+        EXPECT(value->given == SUBST_SET && value->length == 0);
+    else
+        EXPECT(value->given != SUBST_SET && value->given != SUBST_NOT_ASKED);
+}
+
+/* Fails unless the calls for a variable of a text do what the header says for any cells: the name is that of the cells,
+ * without the digit of a question, and the value is for the whole name. Returns the result. */
+static uint32_t expect_by_forms(const struct input *input, uint32_t forms, size_t number)
+{
+    static const struct subst_variable UNUSED = {UNTOLD, UNTOLD, UNTOLD};
+    const struct subst_value values[] = {{NULL, 1, SUBST_UNSET}, {NULL, 1, SUBST_NOT_ASKED}, {NULL, 1, UINT32_MAX},
+                                         {NULL, 0, SUBST_SET}, {"", 0, SUBST_SET}, {"v", 1, SUBST_SET}};
+    struct subst_variable whole = UNUSED, use = UNUSED;
+    const uint32_t found = subst_template_variable(CELLS, SOURCE, number, &whole);
+    const uint32_t result = forms > SUBST_FORMS_COMMON ? (uint32_t)SUBST_NO_SUCH_STYLE : found;
+    uint8_t question = 0;
+    size_t i;
+    EXPECT(subst_template_variable_by_style(CELLS, SOURCE, forms, number, &use) == result);
+    if (result == SUBST_DONE && forms == SUBST_FORMS_SHELL && whole.length > 0)
+        question = input->source[whole.position];
+    if (question < '1' || question > '3')
+        question = 0;
+    whole.position += question != 0;
+    whole.length -= question != 0;
+    EXPECT(IS_SAME(&use, result == SUBST_DONE ? &whole : &UNUSED));
+    for (i = 0; i < sizeof values / sizeof values[0]; i++) {
+        struct subst_value value = values[i];
+        EXPECT(subst_value_by_style(CELLS, SOURCE, forms, number, &value) == result);
+        expect_adapted(result == SUBST_DONE ? forms : (uint32_t)SUBST_FORMS_OWN, question, &values[i], &value);
+    }
+    return result;
+}
+
 /* Memory between pages that can't be touched, for each argument of an expansion. */
 enum { AREAS = 4, AREA = 1 << 16, PAGE = 1 << 12 };
 
@@ -1177,9 +1228,11 @@ static uint32_t expect_harmless(const struct input *given, int is_at_end)
         call_expand.make(input, placed(3, answer.items, length, is_at_end), length, &other);
     subst_expand_step(CELLS, SOURCE, VALUES, &cursor, placed(3, answer.items, answer.needed, is_at_end), answer.needed,
                       &number, &other.fault);
-    for (number = 0; number < 9; number++)
+    for (number = 0; number < 9; number++) {
         if (subst_template_variable(CELLS, SOURCE, number, &use) == SUBST_DONE)
             EXPECT(use.position <= input->source_len && use.length <= input->source_len - use.position);
+        expect_by_forms(input, (uint32_t)(number % (SUBST_FORMS_COMMON + 2)), number);
+    }
     answer.row = answer.result == SUBST_REFUSED ? 0 : UNTOLD;
     expect_rows(&call_expand_each, input, &answer, &answer.needed, answer.needed, 1);
     free(answer.block);
@@ -1276,9 +1329,6 @@ static void try_templates(const struct input *given, const struct answer *answer
     struct subst_value *values = taken(cells.needed * sizeof values[0]);
     struct subst_variable name;
     size_t at;
-    random_state = (uint32_t)tried_len;
-    for (at = 0; at < tried_len; at++)
-        random_state = (random_state ^ tried[at]) * 16777619u;
     EXPECT(is_template(answer) ? cells.result == SUBST_DONE && cells.needed <= input.source_len + 1
                                : cells.result == SUBST_REFUSED && IS_SAME(&cells.fault, &answer->fault));
     expect_in_buffers(&call_template_new, &input, &cells);
@@ -1468,6 +1518,156 @@ static void try_names(const struct call *fill_in, const struct call *parse, cons
     free(block);
 }
 
+/* Kept templates of texts of other tools */
+
+/* Reports a fault in a text, once there is memory, from a template that no memory follows. Fails unless the report is a
+ * variable of the text, or nothing without SUBST_DONE. */
+static uint32_t fault_in_text(const struct input *input, const uint8_t *template, size_t template_len,
+                              const struct subst_fault *fault)
+{
+    uint32_t result;
+    size_t end;
+    if (template_len <= AREA)
+        template = placed(1, template, template_len, 1);
+    reported = UNREPORTED;
+    while ((result = subst_fault_by_style(SOURCE, &input->style, template, template_len, fault, &reported))
+           == SUBST_OUT_OF_MEMORY) {
+        times_out_of_memory += 1;
+        EXPECT(memcmp(&reported, &UNREPORTED, sizeof reported) == 0);
+    }
+    if (result != SUBST_DONE) {
+        EXPECT(memcmp(&reported, &UNREPORTED, sizeof reported) == 0);
+        return result;
+    }
+    end = reported.message_position + reported.message_length;
+    EXPECT(reported.kind == SUBST_NO_SUCH_VARIABLE && fault->kind == SUBST_NO_SUCH_VARIABLE && reported.form == 0);
+    EXPECT(is_name_at(input, reported.position, reported.length));
+    EXPECT(end >= reported.message_length && end < input->source_len && (end == 0 || input->source[end] == '}'));
+    return result;
+}
+
+/* Fails unless variables of a template, at most two of them, are variables of its text. Faults of other kinds and
+ * spans are none. Those of other templates and styles may be. */
+static void try_faults(const struct input *text, const struct input *template)
+{
+    static const struct subst_fault ENDLESS = {SUBST_NO_SUCH_VARIABLE, SIZE_MAX, 2};
+    struct answer none = asked(&call_variables, template, 0), variables = asked(&call_variables, template, none.needed);
+    const uint8_t *source = template->source;
+    const size_t source_len = template->source_len, count = variables.needed;
+    uint8_t *damaged = copy_of(source, source_len);
+    struct input other = *text;
+    size_t i = count > 2 ? some((uint32_t)count - 1) : 0;
+    const size_t end = count > 2 ? i + 2 : count;
+    other.style.forms = some(SUBST_FORMS_COMMON + 2);
+    other.style.names = some(SUBST_NAMES_KNOWN + 2);
+    for (; i < end; i++) {
+        const struct subst_variable *variable = VARIABLES(&variables) + i;
+        const uint8_t *name = source + variable->position;
+        struct subst_fault fault = {SUBST_NO_SUCH_VARIABLE, variable->position, variable->length};
+        size_t question;
+        EXPECT(fault_in_text(text, source, source_len, &fault) == SUBST_DONE);
+        question = variable->length - reported.length;
+        EXPECT(question == (size_t)(text->style.forms == SUBST_FORMS_SHELL && *name >= '1' && *name <= '3'));
+        EXPECT(memcmp(text->source + reported.position, name + question, reported.length) == 0);
+        EXPECT((fault_in_text(&other, source, source_len, &fault) == SUBST_NO_SUCH_STYLE)
+               == (other.style.forms > SUBST_FORMS_COMMON || other.style.names > SUBST_NAMES_KNOWN));
+        damaged[some((uint32_t)source_len)] = (uint8_t)"$\\{}:?a1"[some(8)];
+        fault_in_text(text, damaged, source_len, &fault);
+        fault_in_text(text, text->source, text->source_len, &fault);
+        EXPECT(fault_in_text(text, source, variable->position, &fault) == SUBST_NOT_A_TEMPLATE);
+        fault.position += 1;
+        EXPECT(fault_in_text(text, source, source_len, &fault) == SUBST_NOT_A_TEMPLATE);
+        fault.position -= 1;
+        fault.kind = some(SUBST_NO_SUCH_VARIABLE);
+        EXPECT(fault_in_text(text, source, source_len, &fault) == SUBST_NOT_A_TEMPLATE);
+    }
+    EXPECT(fault_in_text(text, source, source_len, &ENDLESS) == SUBST_NOT_A_TEMPLATE);
+    free(none.block);
+    free(variables.block);
+    free(damaged);
+}
+
+/* Fails unless a template expands to the output of its text by subst_bytes_by_style, or has its fault. */
+static void expect_kept(const struct input *text, const struct input *template, const struct answer *answer,
+                        const struct subst_style_fault *fault)
+{
+    const uint32_t forms = text->style.forms;
+    struct input with_values = *template;
+    const struct input *input = &with_values;
+    struct answer cells = answer_of(&call_parse, input), filled;
+    struct subst_value *values;
+    struct subst_variable use;
+    size_t i;
+    EXPECT(cells.result == SUBST_DONE);
+    with_values.cells = (void *)cells.items;
+    with_values.cells_len = cells.needed;
+    with_values.values_len = subst_template_variables(CELLS);
+    with_values.values = values = taken(input->values_len * sizeof values[0]);
+    for (i = 0; i < input->values_len; i++) {
+        EXPECT(expect_by_forms(input, forms, i) == SUBST_DONE);
+        EXPECT(subst_template_variable_by_style(CELLS, SOURCE, forms, i, &use) == SUBST_DONE);
+        values[i] = value_of(pair_of(input, use.position, use.length));
+        EXPECT(subst_value_by_style(CELLS, SOURCE, forms, i, &values[i]) == SUBST_DONE);
+    }
+    EXPECT(expect_by_forms(input, forms, i) == SUBST_NOT_A_TEMPLATE);
+    EXPECT(expect_by_forms(input, SUBST_FORMS_COMMON + 1, 0) == SUBST_NO_SUCH_STYLE);
+    filled = asked(&call_expand, input, answer->needed);
+    EXPECT(filled.result == answer->result);
+    if (filled.result == SUBST_REFUSED) {
+        EXPECT(fault_in_text(text, input->source, input->source_len, &filled.fault) == SUBST_DONE);
+        EXPECT(memcmp(&reported, fault, sizeof reported) == 0);
+        answer = &filled;
+    }
+    expect_in_buffers(&call_expand, input, answer);
+    expect(&call_steps, input, answer, answer->needed);
+    free(filled.block);
+    free(values);
+    free(cells.block);
+}
+
+/* Fails unless a text has a template by a style, or a refused form, as subst_bytes_by_style has it with pairs. */
+static void try_kept_style(const struct input *given)
+{
+    struct answer none = asked(&call_bytes_by_style, given, 0), answer = asked(&call_bytes_by_style, given, none.needed);
+    const struct subst_style_fault fault = reported;
+    struct input input = *given, template;
+    struct answer made;
+    free(none.block);
+    if (input.style.names == SUBST_NAMES_KNOWN) {
+        input.style.only = input.pairs;
+        input.style.only_len = input.pairs_len;
+    }
+    none = asked(&call_template_by_style, &input, 0);
+    made = asked(&call_template_by_style, &input, none.needed);
+    if (answer.result == SUBST_REFUSED && fault.kind == SUBST_REFUSED_FORM)
+        EXPECT(made.result == SUBST_REFUSED && memcmp(&reported, &fault, sizeof fault) == 0);
+    else
+        EXPECT(made.result == SUBST_DONE);
+    EXPECT(!is_utf8(input.source, input.source_len) || is_utf8(made.items, made.needed));
+    expect_in_buffers(&call_template_by_style, &input, &made);
+    if (made.result == SUBST_DONE) {
+        template = input;
+        template.source = made.items;
+        template.source_len = made.needed;
+        expect_kept(&input, &template, &answer, &fault);
+        try_faults(&input, &template);
+    }
+    free(none.block);
+    free(answer.block);
+    free(made.block);
+}
+
+/* Tries all forms, all choices of names, and both expansions of an unset variable. */
+static void try_kept_styles(const struct input *given)
+{
+    struct input input = *given;
+    const struct subst_style first = {0, 0, 0, input.pairs, input.pairs_len / 2};
+    for (input.style = first; input.style.forms <= SUBST_FORMS_COMMON; input.style.forms++)
+        for (input.style.names = 0; input.style.names <= SUBST_NAMES_KNOWN; input.style.names++)
+            for (input.style.unset = 0; input.style.unset <= SUBST_UNSET_NOTHING; input.style.unset++)
+                try_kept_style(&input);
+}
+
 /* Inputs */
 
 /* Reads an input: numbers of one byte, 0 if none is left, and then this many bytes for each word, or as many as are
@@ -1540,6 +1740,7 @@ int LLVMFuzzerTestOneInput(const uint8_t *data, size_t size)
     struct answer answer;
     tried = data;
     tried_len = size;
+    seed();
     answer = answer_of(&call_bytes, &input);
     try_filling(&input, &answer);
     count_answer(&input, &answer);
@@ -1561,6 +1762,7 @@ int LLVMFuzzerTestOneInput(const uint8_t *data, size_t size)
     try_document(&call_yaml, &call_yaml_fault_text, &input);
     try_names(&call_yaml, &call_yaml_parse, &call_yaml_expand, &input);
     try_templates(&input, &answer);
+    try_kept_styles(&input);
     free(answer.block);
     end_input(&input, data + size);
     return 0;

@@ -259,6 +259,45 @@ static void test_styles(void)
     EXPECT(subst_text_by_style("\xC3$a", 3, &shell, NULL, 0, buffer, ROOM, &needed, &fault) == SUBST_NOT_UTF8);
 }
 
+/* Expands a text of a shell by its kept template: the first name has an empty value, the second none. */
+static void test_kept_style(void)
+{
+    static const char text[] = "${A:-d}, ${B+b}${C:?no}";
+    const size_t length = sizeof text - 1;
+    const struct subst_style shell = {SUBST_FORMS_SHELL, SUBST_NAMES_ALL, SUBST_UNSET_NOTHING, NULL, 0};
+    struct subst_style_fault told;
+    struct subst_fault fault;
+    struct subst_variable name;
+    struct subst_value values[3] = {{"", 0, SUBST_SET}, {NULL, 0, SUBST_UNSET}, {"c", 1, SUBST_SET}};
+    struct subst_cell *cells;
+    size_t made = 0, count, needed, i;
+    char source[ROOM], buffer[ROOM];
+    tested = "subst_template_by_style";
+    EXPECT(is_empty(subst_template_by_style(NULL, 0, &shell, NULL, 0, &made, &told), &made));
+    EXPECT(subst_template_by_style("${A#b}", 6, &shell, source, ROOM, &made, &told) == SUBST_REFUSED
+           && told.kind == SUBST_REFUSED_FORM && told.form == SUBST_FORM_HASH && told.position == 0);
+    EXPECT(subst_template_by_style(text, length, &shell, source, ROOM, &made, &told) == SUBST_DONE);
+    EXPECT(subst_template_new(source, made, 0, &cells, &count, &fault) == SUBST_DONE);
+    for (i = 0; i < 3; i++) {
+        EXPECT(subst_template_variable_by_style(cells, count, source, made, shell.forms, i, &name) == SUBST_DONE
+               && name.length == 1 && source[name.position] == "ABC"[i]);
+        EXPECT(subst_value_by_style(cells, count, source, made, shell.forms, i, &values[i]) == SUBST_DONE);
+    }
+    EXPECT(values[0].given == SUBST_UNSET && values[1].given == SUBST_SET && values[1].length == 0);
+    EXPECT(subst_expand(cells, count, source, made, values, 3, buffer, ROOM, &needed, &fault) == SUBST_DONE
+           && needed == 4 && memcmp(buffer, "d, c", 4) == 0);
+    EXPECT(subst_expand(cells, count, source, made, values, 2, buffer, ROOM, &needed, &fault) == SUBST_REFUSED);
+    EXPECT(subst_fault_by_style(text, length, &shell, source, made, &fault, &told) == SUBST_DONE
+           && told.kind == SUBST_NO_SUCH_VARIABLE && told.position == 17 && told.length == 1
+           && told.message_position == 20 && told.message_length == 2);
+    fault.kind = SUBST_MISSING_CLOSING_BRACE;
+    EXPECT(subst_fault_by_style(text, length, &shell, source, made, &fault, &told) == SUBST_NOT_A_TEMPLATE);
+    EXPECT(subst_value_by_style(cells, count, source, made, 4, 0, &values[0]) == SUBST_NO_SUCH_STYLE);
+    EXPECT(subst_value_by_style(NULL, 0, NULL, 0, 0, 0, &values[0]) == SUBST_NOT_A_TEMPLATE);
+    EXPECT(subst_template_variable_by_style(NULL, 0, NULL, 0, 0, 0, &name) == SUBST_NOT_A_TEMPLATE);
+    free(cells);
+}
+
 /* Parses a source, and expands its cells once, by the steps and for two rows. Only the parse takes memory. */
 static uint32_t expanded(const char *source, const struct subst_pair *pairs, size_t pairs_len)
 {
@@ -323,6 +362,7 @@ int main(int argc, char **argv)
     test_filling("subst_bytes_into", subst_bytes_into);
     test_filling("subst_text_into", subst_text_into);
     test_styles();
+    test_kept_style();
     test_names("subst_json_parse", subst_json_parse, subst_json_expand, "[\"${\\u0061}\"]", "[\"1\"]");
     test_names("subst_toml_parse", subst_toml_parse, subst_toml_expand, "a = \"${\\u0061}\"\n", "a = \"1\"\n");
     test_names("subst_yaml_parse", subst_yaml_parse, subst_yaml_expand, "- \"${\\u0061}\"\n", "- \"1\"\n");

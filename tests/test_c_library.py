@@ -8,7 +8,8 @@ import re
 import resource
 import time
 
-from tests.installed import CC, DONE, REFUSED, ROOM_TOO_SMALL, Cell, Compiling, Place, Value, prefix, sized
+from tests.installed import (CC, DONE, REFUSED, ROOM_TOO_SMALL, Cell, Compiling, Pair, Place, Value, pairs_of, prefix,
+                             sized)
 from tests.support import KIB, MIB, TOP, Built, ended, needs, preloading, ran, version
 
 CXX = os.environ.get('CXX') or 'c++'
@@ -137,19 +138,9 @@ class CLibrary(Compiling, Built):
         ran(['./found'], env={'LD_LIBRARY_PATH': str(prefix() / 'lib')})
 
 
-class Pair(ctypes.Structure):
-    """subst_pair of subst.h."""
-    _fields_ = [('name', ctypes.c_char_p), ('name_len', ctypes.c_size_t),
-                ('value', ctypes.c_char_p), ('value_len', ctypes.c_size_t)]
-
-
 class Row(ctypes.Structure):
     """subst_row of subst.h."""
     _fields_ = [('pairs', ctypes.POINTER(Pair)), ('pairs_len', ctypes.c_size_t)]
-
-
-def pairs_of(variables):
-    return (Pair * len(variables))(*(Pair(name, len(name), it, len(it)) for name, it in variables.items()))
 
 
 def source_of(length, begin, end):

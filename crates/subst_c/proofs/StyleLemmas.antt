@@ -1,6 +1,7 @@
 -- A text and its template have the same value, or miss the same variable.
-use Rattle.std.proofs.Common.{◌≡◌, ◌==◌, ◌<◌, ◌≤◌, ℕ, zero, suc, Bool, true, false, if◌then◌else◌, List, [], ◌∷◌, length, map, Option, Some, None, IfSome, MatchOption, get_or, option_and_then, option_map, Err, refl, sym, ap, ◌∙◌, subst}
-use Rattle.std.proofs.lemmas.Option.{slice_get-get_or, slice_get-map, slice_get_read}
+use Rattle.std.proofs.Common.{◌≡◌, ◌≢◌, ◌==◌, ◌<◌, ◌≤◌, ℕ, zero, suc, Bool, true, false, if◌then◌else◌, List, [], ◌∷◌, length, map, Option, Some, None, IfSome, IsTrue, MatchOption, arith, get_or, option_and_then, option_map, Result, Ok, Err, IfOk, refl, sym, ap, ◌∙◌, subst}
+use Rattle.std.proofs.lemmas.Option.{slice_get-get_or, slice_get-map, slice_get_read, slice_get_within}
+use Rattle.std.proofs.lemmas.List.{length-map}
 use Rattle.std.specs.Borrow.{Bor}
 use Rattle.std.specs.Option.{option_copied}
 use Rattle.std.proofs.lemmas.Str.{IsUtf8-nil}
@@ -15,11 +16,14 @@ use Rattle.subst_foreign.specs.Text.{Text, IsText, spelling, variables_of}
 use Rattle.subst_foreign.specs.declared.forms.Forms.{Forms}
 use Rattle.subst_foreign.specs.declared.forms.Forms.TheVariants as of
 use Rattle.subst_foreign.specs.declared.forms.Missing.{Missing}
-use Rattle.subst_error.specs.Fault.{NoSuchVariable}
+use Rattle.subst_foreign.specs.declared.forms.Missing.TheVariants as missing
+use Rattle.subst_error.specs.Fault.{Fault, NoSuchVariable}
 use Rattle.subst_language.specs.Language.Answer.{IsMissing as IsFault}
+use Rattle.subst_language.proofs.Language.FaultLemmas.{exclusive}
+use Rattle.subst_language.specs.Language.BadItem.{HasFault}
 use Rattle.subst_language.specs.Language.LookUp.{LookUp, GivesTexts}
 use Rattle.subst_language.specs.Language.NamesIn.{names_in}
-use Rattle.subst_language.specs.Language.Sentence.{ByTree, IsSentence}
+use Rattle.subst_language.specs.Language.Sentence.{ByTree, IsSentence, Spells}
 use Rattle.subst_language.specs.Language.Tree.{Tree}
 use Rattle.subst_language.specs.Language.Value.{Bytes, Value, value, Missing as IsMissing}
 use Rattle.subst_language.specs.Calls.Variables as calls
@@ -30,7 +34,12 @@ use Rattle.subst_language.specs.Language.Variables.{name_of}
 use Rattle.subst_language.specs.Maps.{without_empty}
 use Rattle.subst_c.proofs.TextLemmas.{TextsGiveTexts, source_is_text, values_are_texts}
 use Rattle.subst_c.specs.Pairs.{pair_value}
-use Rattle.subst_c.specs.Style.{HasIndex, IsUnset}
+use Rattle.subst_c.specs.Fault.{fault_number}
+use Rattle.subst_c.specs.Style.{AreOf, HasIndex, HasVariable, IsUnset, forms_number, missing_number, names_number}
+use Rattle.subst_c.specs.declared.style.Choice.{Choice}
+use Rattle.subst_c.specs.declared.style.Choice.TheVariants as choice
+use Rattle.subst_c.specs.declared.style.Choices.{Choices}
+use Rattle.subst_c.specs.declared.style.StyleRecord.{StyleRecord}
 use Rattle.subst_c.specs.Text.{are_texts}
 use Rattle.subst_c.specs.declared.pairs.Pair.{Pair}
 
@@ -183,3 +192,94 @@ has_index g s template position name listed variables i d (Some x) P are lists b
         named,
       );
     }
+
+-- the law that a template has as many variables as its text, which `laws::variables_are_in_one_order` states
+abbrev pub AsMany : Grammar → Missing → Type 0
+AsMany g unset = (s source : List ℕ) → IsTemplate g unset s source → (t : Tree) → Spells t source
+    → (listed : List VariableAt) → Listing g 0 0 s listed → length (tree.variables_of 0 t) ≡ length listed
+
+-- a variable of a template has one at its index in the text
+pub is_found : (g : Grammar) (unset : Missing) (s template : List ℕ) (listed : List Variable)
+    (variables : List TextVariable) (i : ℕ) (got : Option (Bor TextVariable)) (P : Bor TextVariable → Type 0)
+    → AsMany g unset → ByTree template (λ t. map calls.variable_of listed ≡ tree.variables_of 0 t)
+    → IsListing g s variables → i < length listed
+    → MatchOption got (length variables ≤ i) (λ x. (i < length variables) × P x)
+    → IsTemplate g unset s template → option_copied got ≢ None
+is_found g unset s template listed variables i (Some x) P many are lists below within is none = absurd cc
+is_found g unset s template listed variables i None P many are lists below within is none =
+    let counted : length listed ≡ length variables =
+    sym (length-map listed calls.variable_of) ∙ ap (λ l. length l) (are is.tree is.spells)
+    ∙ many s template is is.tree is.spells (map variable_of variables) lists ∙ length-map variables variable_of
+    in
+    let fails : ⊥ = omega (arith, counted, below, within) in fails
+
+-- the item at an index hasn't the property P, if a test says so
+pub not_here : {X : Type 0} (P : X → Type 0) (l : List X) (i : ℕ) (d : X) (b : Bool) → i < length l → b ≡ false
+    → (P (get_or l i d) → IsTrue b) → (v : X) → slice_get l i ≡ Some v → P v → ⊥
+not_here P l i d b below is test v found has =
+    let got = slice_get-get_or l i d below in
+    let same : v ≡ get_or l i d = cc (got, found) in
+    let yes = test (subst P same has) in absurd cc
+
+-- a variable that isn't listed isn't one of the template
+pub not_listed : (template : List ℕ) (listed : List Variable) (position : ℕ) (name : List ℕ)
+    → ByTree template (λ t. map calls.variable_of listed ≡ tree.variables_of 0 t)
+    → ((k : ℕ) → k < length listed → (v : Variable) → slice_get listed k ≡ Some v
+    → (v.position ≡ position) × (v.name.now ≡ name) → ⊥)
+    → HasVariable template position name → ⊥
+not_listed template listed position name are none (t, spells, index, w, here, placed, named) =
+    of (slice_get listed index) refl
+    (sym (slice_get-map calls.variable_of listed index) ∙ ap (λ l. slice_get l index) (are t spells) ∙ here)
+  where
+    of : (o : Option Variable) → slice_get listed index ≡ o → option_map calls.variable_of o ≡ Some w → ⊥
+    of None same mapped = absurd cc
+    of (Some v) same mapped =
+        let is : calls.variable_of v ≡ w = cc in
+        none index (slice_get_within listed index v same) v same
+        (ap (λ u. u.position) is ∙ placed, ap (λ u. u.name) is ∙ named)
+
+-- a source with a fault is no template
+pub no_template : (g : Grammar) (unset : Missing) (s template : List ℕ) (o : Option Fault) (k : ℕ)
+    → IfSome o (HasFault 0 template) → option_map fault_number o ≡ Some k → IsTemplate g unset s template → ⊥
+no_template g unset s template (Some f) k has some is = exclusive template is.tree 0 f is.spells has
+no_template g unset s template None k has some is = absurd cc
+
+-- a variable that is found at an index lies in the text
+pub found_within : {E : Type 0} (g : Grammar) (s template : List ℕ) (position : ℕ) (name : List ℕ)
+    (r : Result (Option TextVariable) E)
+    → ((listed : List VariableAt) → Listing g 0 0 s listed → AllByRecursion (λ v. end_of v ≤ length s) listed)
+    → IfOk r (λ found. IfSome found (λ v. HasIndex g s template position name (variable_of v)))
+    → IfOk r (λ found. IfSome found (λ v. end_of (variable_of v) ≤ length s))
+found_within g s template position name (Ok (Some v)) within at =
+    ends_within g s template position name (variable_of v) within at
+found_within g s template position name (Ok None) within at = tt
+found_within g s template position name (Err e) within at = tt
+
+-- each number is that of one choice
+same_forms : (a b : Forms) → forms_number a ≡ forms_number b → a ≡ b
+same_forms of.Own of.Own same = refl
+same_forms of.Envsubst of.Envsubst same = refl
+same_forms of.Shell of.Shell same = refl
+same_forms of.Common of.Common same = refl
+same_forms a b same = absurd cc
+
+same_names : (a b : Choice) → names_number a ≡ names_number b → a ≡ b
+same_names choice.All choice.All same = refl
+same_names choice.Only choice.Only same = refl
+same_names choice.Known choice.Known same = refl
+same_names a b same = absurd cc
+
+same_missing : (a b : Missing) → missing_number a ≡ missing_number b → a ≡ b
+same_missing missing.Fault missing.Fault same = refl
+same_missing missing.Nothing missing.Nothing same = refl
+same_missing a b same = absurd cc
+
+-- a style has the numbers of one set of choices
+pub choices_unique : (style : StyleRecord) (a b : Choices) → AreOf style a → AreOf style b → a ≡ b
+choices_unique style a b one other =
+    let forms = same_forms a.forms b.forms (sym one.0 ∙ other.0) in
+    let names = same_names a.names b.names (sym one.1 ∙ other.1) in
+    let unset = same_missing a.missing b.missing (sym one.2 ∙ other.2) in
+    let make : Forms → Choice → Missing → Choices = λ f n m. record { forms = f; names = n; missing = m } in
+    ap (λ f. make f a.names a.missing) forms ∙ ap (λ n. make b.forms n a.missing) names
+    ∙ ap (λ m. make b.forms b.names m) unset

@@ -15,5 +15,6 @@ pub mod Results
 pub mod RowSource
 pub mod RowValues
 pub mod Style
+pub mod StyleTemplate
 pub mod Text
 pub mod Values

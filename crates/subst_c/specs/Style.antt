@@ -114,6 +114,11 @@ pub record HasIndex (g : Grammar) (s template : List ℕ) (position : ℕ) (name
   pub in_template : (t : Tree) → Spells t template → (w : Variable)
       × (slice_get (variables_of 0 t) index ≡ Some w) × (w.position ≡ position) × (w.name ≡ name)
 
+-- the variable `name` at `position` is one of those of `template`
+abbrev pub HasVariable : (template : List ℕ) → (position : ℕ) → (name : List ℕ) → Type 0
+HasVariable template position name = (t : Tree) × Spells t template × (index : ℕ) × (w : Variable)
+    × (slice_get (variables_of 0 t) index ≡ Some w) × (w.position ≡ position) × (w.name ≡ name)
+
 -- The variable v of the text s is missing: in a template for s, the variable at the same index is missing.
 -- The value of s is an error with the name of v.
 pub record IsUnset (g : Grammar) (unset : Missing) (s : List ℕ) (look : LookUp) (v : VariableAt) : Type 0 where
@@ -169,10 +174,10 @@ IsIn s (style_error.Unset v) = end_of (variable_of v) ≤ length s
 IsIn s (style_error.OutOfMemory e) = Unit {0}
 
 -- the effect that a call with the result `result` has on the record of a fault
-pub record SetsStyleFault (style : StyleRecord) (given : List Pair) (s : List ℕ) (result : ℕ)
-    (old new : StyleFault) : Type 0 where
-  -- if the text is refused, the new record is that of the fault, and both spans of the record lie in the text
-  pub refused : result ≡ REFUSED → RefusedByStyle style given s new
+pub record SetsStyleFault (IsSuch : StyleFault → Type 0) (s : List ℕ) (result : ℕ) (old new : StyleFault)
+    : Type 0 where
+  -- if the text is refused, the new record has the property `IsSuch`, and both of its spans lie in the text
+  pub refused : result ≡ REFUSED → IsSuch new
   pub within : result ≡ REFUSED → LiesIn s new
   -- unless the text is refused, the record is unchanged
   pub fault_kept : result ≢ REFUSED → new ≡ old

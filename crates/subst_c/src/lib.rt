@@ -26,7 +26,7 @@ ghost use Rattle.subst_c.specs.Foreign.{HasPlain, IsFormText, IsRefusedFor, miss
 ghost use Rattle.subst_c.specs.Pairs.{pair_value, GivenBy, TextGivenBy, RefusedBy};
 ghost use Rattle.subst_c.specs.Records.{HasRecords};
 ghost use Rattle.subst_c.specs.Buffer.{FillsBuffer, IsPut, IsTooLong};
-ghost use Rattle.subst_c.specs.Style.{AreOf, GivenByStyle, SetsStyleFault, TextGivenByStyle};
+ghost use Rattle.subst_c.specs.Style.{AreOf, GivenByStyle, RefusedByStyle, SetsStyleFault, TextGivenByStyle};
 ghost use Rattle.subst_c.specs.declared.style.Choices.{Choices};
 ghost use Rattle.subst_c.specs.Text.{IsFaultTextOf, IsHighlighting, are_texts};
 ghost use Rattle.subst_c.specs.declared.outcome.TheConstants.{DONE, REFUSED, OUT_OF_MEMORY, ROOM_TOO_SMALL, NOT_UTF8, NOT_A_BOUNDARY, NOT_CONFIRMED, NO_SUCH_STYLE};
@@ -63,9 +63,11 @@ mod names;
 mod numbered;
 pub mod outcome;
 mod pairs;
+mod question;
 mod row_values;
 mod rows;
 mod style;
+pub mod style_template;
 pub mod template;
 mod value;
 mod variables;
@@ -600,7 +602,8 @@ pub extern "C" fn subst_bytes_by_style(
         result needed.old needed.new buffer.old buffer.new }
 
     // The fault is that of the first refused form, or, if there is none, of the missing variable.
-    ensures fault { SetsStyleFault style.now pairs.now source.now result fault.old fault.new }
+    ensures fault { SetsStyleFault (RefusedByStyle style.now pairs.now source.now) source.now
+        result fault.old fault.new }
 
     // The result is `NO_SUCH_STYLE` exactly if `forms`, `names` or `missing` of the style isn't a defined
     // number.
@@ -625,7 +628,8 @@ pub extern "C" fn subst_text_by_style(
     // The buffer and the fault are as for `subst_bytes_by_style`, and the output is UTF-8.
     ensures buffer { FillsBuffer (TextGivenByStyle style.now pairs.now source.now)
         result needed.old needed.new buffer.old buffer.new }
-    ensures fault { SetsStyleFault style.now pairs.now source.now result fault.old fault.new }
+    ensures fault { SetsStyleFault (RefusedByStyle style.now pairs.now source.now) source.now
+        result fault.old fault.new }
 
     // The result is `NOT_UTF8` exactly if the source or a value isn't UTF-8.
     ensures text { result ≢ NOT_UTF8 → are_texts source.now pairs.now ≡ true }

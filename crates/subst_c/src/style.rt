@@ -1,6 +1,6 @@
 //! Expanding texts of other tools, by a style.
 
-ghost use Rattle.std.specs.Prelude.{◌≡◌, ◌≢◌, ◌≤◌, ◌<◌, ◌^◌, ◌+◌, Some, IfErr, IfOk, IfSome, IsTrue, MatchOption, length, string_bytes, true};
+ghost use Rattle.std.specs.Prelude.{◌≡◌, ◌≢◌, ◌↔◌, ◌≤◌, ◌<◌, ◌^◌, ◌+◌, None, Some, IfErr, IfOk, IfSome, IsTrue, MatchOption, length, string_bytes, true};
 ghost use Rattle.std.specs.List.{slice_get};
 ghost use Rattle.std.specs.Str.{IsUtf8};
 ghost use Rattle.subst_error.specs.ErrorFault.{expand_fault};
@@ -12,7 +12,7 @@ ghost use Rattle.subst_language.specs.Language.LookUp.{GivesTexts};
 ghost use Rattle.subst_language.specs.Language.Sentence.{ByTree};
 ghost use Rattle.subst_language.specs.Language.Value.{value};
 ghost use Rattle.subst_c.specs.Pairs.{pair_value};
-ghost use Rattle.subst_c.specs.Style.{fault_of_form, fault_of_variable, grammar_of, message_after, AreOf, GivenByStyle, HasIndex, IsGiven, IsIn, IsRefusal, IsReported, LiesIn, SetsStyleFault};
+ghost use Rattle.subst_c.specs.Style.{fault_of_form, fault_of_variable, forms_number, grammar_of, message_after, AreOf, GivenByStyle, HasIndex, HasVariable, IsGiven, IsIn, IsRefusal, IsReported, LiesIn, RefusedByStyle, SetsStyleFault};
 ghost use Rattle.subst_c.specs.Text.{are_texts};
 ghost use Rattle.subst_c.specs.declared.outcome.TheConstants.{NO_SUCH_STYLE, REFUSED, OUT_OF_MEMORY};
 ghost use Rattle.subst_c.specs.Buffer.{FillsBuffer};
@@ -25,8 +25,8 @@ use crate::foreign::{has_name, number_of};
 use crate::outcome::{NO_SUCH_STYLE, OUT_OF_MEMORY, REFUSED};
 use crate::pairs::{Pair, Pairs, pairs_of};
 use std::alloc::{AllocError, Global};
-use subst_error::{ExpandError, NoSuchVariable};
-use subst_foreign::laws::one_listing;
+use subst_error::ExpandError;
+use subst_foreign::laws::{one_listing, variables_are_in_one_order};
 use subst_foreign::{
     FormAt, Forms, Missing, Names, Operator, ShellMap, Style, TextError, TextVariable,
 };
@@ -81,17 +81,11 @@ pub struct Choices {
 
 impl StyleRecord<'_> {
     /// Returns the choices that have the style's numbers, or `None` if a number belongs to no choice.
-    fn choices(&self) -> Option<Choices>
+    pub(crate) fn choices(&self) -> Option<Choices>
         ensures { MatchOption result ((choices : Choices) → ¬ (AreOf self.now choices))
             (AreOf self.now) }
     {
-        let forms = match self.forms {
-            0 => Forms::Own,
-            1 => Forms::Envsubst,
-            2 => Forms::Shell,
-            3 => Forms::Common,
-            _ => return None,
-        };
+        let forms = forms_of(self.forms)?;
         let names = match self.names {
             0 => Choice::All,
             1 => Choice::Only,
@@ -111,13 +105,47 @@ impl StyleRecord<'_> {
     }
 }
 
+/// Returns the forms with this number, or `None` if there are none.
+pub(crate) fn forms_of(number: u32) -> Option<Forms>
+    ensures { MatchOption result ((forms : Forms) → number ≢ forms_number forms)
+        (λ forms. number ≡ forms_number forms) }
+{
+    let forms = match number {
+        0 => Forms::Own,
+        1 => Forms::Envsubst,
+        2 => Forms::Shell,
+        3 => Forms::Common,
+        _ => return None,
+    };
+    Some(forms)
+}
+
 /// The names that are variables by `choice`: all, the names of `only`, or the names with a value in `given`.
 /// With [`Choice::Known`], all names in forms with an operator are variables too.
 #[derive(Drop)]
-struct ChosenNames<'o, 'g> {
+pub struct ChosenNames<'o, 'g> {
     choice: Choice,
     only: Pairs<'o>,
     given: Pairs<'g>,
+}
+
+/// Returns the names of `text` that are variables by `choice`.
+pub fn names_of<'o, 'g>(
+    alloc: Global,
+    text: &[u8],
+    choice: Choice,
+    only: &'o [Pair<'o>],
+    given: &'g [Pair<'g>],
+) -> ChosenNames<'o, 'g>
+    ensures choice { result.choice ≡ choice }
+    ensures only { result.only.pairs.now ≡ only.now }
+    ensures given { result.given.pairs.now ≡ given.now }
+{
+    ChosenNames {
+        choice,
+        only: pairs_of(alloc, text, only),
+        given: pairs_of(alloc, text, given),
+    }
 }
 
 impl Names for ChosenNames<'_, '_> {
@@ -171,11 +199,7 @@ pub fn fill_in<'t>(
     ensures is_text { are_texts text.now pairs.now ≡ true
         → IfOk result (λ output. IsUtf8 output.items) }
 {
-    let names = ChosenNames {
-        choice: choices.names,
-        only: pairs_of(alloc, text, only),
-        given: pairs_of(alloc, text, pairs),
-    };
+    let names = names_of(alloc, text, choices.names, only, pairs);
     let style = Style {
         forms: choices.forms,
         names: &names,
@@ -223,7 +247,8 @@ fn expand_text<'t, N: Names>(
         Ok(output) => Ok(output),
         Err(ExpandError::OutOfMemory(e)) => Err(StyleError::OutOfMemory(e)),
         Err(ExpandError::NoSuchVariable(missing)) => {
-            match unset_variable(alloc, text, style, &template, &missing) {
+            let name = missing.name.as_bytes();
+            match variable_in_text(alloc, text, style, &template, missing.position, name) {
                 Ok(Some(variable)) => Err(StyleError::Unset(variable)),
                 Ok(None) => Err(StyleError::OutOfMemory(AllocError)),
                 Err(e) => Err(StyleError::OutOfMemory(e)),
@@ -253,41 +278,49 @@ fn expand(
     }
 }
 
-/// Returns the unset variable of `text`. Its index among the variables of `text` is that of `missing` among
-/// the variables of `template`, the template for `text`. Returns `None` if `missing` isn't found.
+/// Returns the variable of `text` that has the index of a variable of `template`, the template for `text`:
+/// the variable `name` at `position`. Returns `None` if `template` has no such variable, or if `text` has
+/// fewer variables.
 ///
 /// # Errors
 ///
 /// If allocation fails.
-fn unset_variable<'t, N: Names>(
+pub fn variable_in_text<'t, N: Names>(
     alloc: Global,
     text: &'t [u8],
     style: Style<'_, N>,
     template: &ByteTemplate,
-    missing: &NoSuchVariable,
+    position: usize,
+    name: &[u8],
 ) -> Result<Option<TextVariable<'t>>, AllocError>
-    ensures { let g = grammar style.entry.forms (N.all style.entry.names.now)
+    ensures index { let g = grammar style.entry.forms (N.all style.entry.names.now)
         (N.counts style.entry.names.now) in
         IfOk result (λ found. IfSome found (λ variable.
-        HasIndex g text.now template.now missing.now.position (string_bytes missing.now.name)
-        (variable_of variable))) }
+        HasIndex g text.now template.now position name.now (variable_of variable))) }
+
+    // If `template` is one for `text` and has the variable, so does `text`.
+    ensures found { let g = grammar style.entry.forms (N.all style.entry.names.now)
+        (N.counts style.entry.names.now) in
+        IsTemplate g style.entry.missing text.now template.now
+        → HasVariable template.now position name.now → IfOk result (λ found. found ≢ None) }
 {
+    variables_are_in_one_order(style);
     let listed = template.variables(alloc)?;
     let variables = style.variables(alloc, text)?;
     for (index, variable) in listed.iter().enumerate() {
-        if is_missing(variable, missing) {
+        if is_at(variable, position, name) {
             return Ok(variables.get(index).copied());
         }
     }
     Ok(None)
 }
 
-/// Returns whether `variable` and `missing` have the same position and the same name.
-fn is_missing(variable: &Variable, missing: &NoSuchVariable) -> bool
-    ensures { IsTrue result → (variable.now.position ≡ missing.now.position)
-        × (variable.now.name.now ≡ string_bytes missing.now.name) }
+/// Returns whether the variable has this position and this name.
+fn is_at(variable: &Variable, position: usize, name: &[u8]) -> bool
+    ensures { IsTrue result ↔ (variable.now.position ≡ position)
+        × (variable.now.name.now ≡ name.now) }
 {
-    variable.position == missing.position && variable.name == missing.name.as_str()
+    variable.position == position && variable.name.as_bytes() == name
 }
 
 impl StyleFault {
@@ -306,7 +339,7 @@ impl StyleFault {
     }
 
     /// Returns the fault of an unset variable.
-    fn of_variable(variable: &TextVariable) -> Self
+    pub(crate) fn of_variable(variable: &TextVariable) -> Self
         requires { end_of (variable_of variable.now) < 2 ^ 64 }
         ensures { result ≡ fault_of_variable (variable_of variable.now) }
     {
@@ -370,7 +403,8 @@ pub fn deliver(
     ensures buffer { FillsBuffer (λ x. (are_texts text.now pairs.now ≡ true → IsUtf8 x)
         × GivenByStyle style.now pairs.now text.now x)
         result needed.old needed.new buffer.old buffer.new }
-    ensures fault { SetsStyleFault style.now pairs.now text.now result fault.old fault.new }
+    ensures fault { SetsStyleFault (RefusedByStyle style.now pairs.now text.now) text.now
+        result fault.old fault.new }
     ensures style { result ≢ NO_SUCH_STYLE → (choices : Choices) × AreOf style.now choices }
     ensures no_style { result ≡ NO_SUCH_STYLE → (choices : Choices) → ¬ (AreOf style.now choices) }
     ensures others { result ≢ NO_SUCH_STYLE → IsOther result }

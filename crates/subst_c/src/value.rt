@@ -2,6 +2,9 @@
 
 use subst_indexed::slot::{AsSlot, Slot};
 
+/// A variable without a value.
+pub const UNSET: u32 = 0;
+
 /// A variable with a value. The bytes are read only with this number.
 pub const SET: u32 = 1;
 

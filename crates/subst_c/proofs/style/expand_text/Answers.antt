@@ -20,11 +20,12 @@ returns-in-Ok-Some-clause-refused g c =
     unset_at _ c.args.style.missing c.args.text.now c.in-Ok.source.items (pair_value c.args.given.now.pairs.now)
     c.one_listing.ensures.variables c.one_listing.ensures.named c.missing_lists_are_whole.ensures.names
     c.in-Ok.ensures.template missing.position (string_bytes missing.name) (variable_of c.in-Ok-Some.variable)
-    (rw (is.1, c.in-Ok-Some.field-0-is) at c.in-Ok-Some.ensures) (λ t spells. says_missing _ _ _ (says t spells))
+    (rw (is.1, c.in-Ok-Some.field-0-is, c.as_bytes-name.ensures.value) at c.in-Ok-Some.ensures.index)
+    (λ t spells. says_missing _ _ _ (says t spells))
 
 pub returns-in-Ok-Some-clause-within : goal.returns-in-Ok-Some-clause-within
 returns-in-Ok-Some-clause-within g c =
     let missing = c.in-Err-NoSuchVariable.missing in
     ends_within _ c.args.text.now c.in-Ok-from_slice.template missing.position (string_bytes missing.name)
     (variable_of c.in-Ok-Some.variable) (c.one_listing.ensures.within c.args.text.now)
-    (rw c.in-Ok-Some.field-0-is at c.in-Ok-Some.ensures)
+    (rw (c.in-Ok-Some.field-0-is, c.as_bytes-name.ensures.value) at c.in-Ok-Some.ensures.index)
