@@ -1,9 +1,11 @@
 pub mod ListLemmas
 pub mod ColumnLemmas
 pub mod RowLemmas
+pub mod LetterLemmas
 pub mod LineLemmas
 pub mod QuoteLemmas
 pub mod RecordsLemmas
 pub mod TableLemmas
 pub mod JsonLineLemmas
 pub mod JsonRowLemmas
+pub mod RowsLemmas

@@ -2,6 +2,7 @@
 use denote.Ref.{Bor}
 use borrow.Author.Count.{below_more}
 use Rattle.std.proofs.Common.{◌≡◌, ℕ, ◌+◌, ◌<◌, Bool, true, false, Option, Some, None, List, [], ◌∷◌, ◌++◌, map, length, refl, sym, ap, ◌∙◌, subst, arith}
+use Rattle.std.proofs.Math.Path.{fun_ext}
 use Rattle.std.proofs.lemmas.List.{length-map, map-append}
 use Rattle.std.proofs.lemmas.List.Elements.{All-from_recursion}
 use Rattle.std.proofs.lemmas.Option.{slice_get-map, slice_get_within}
@@ -23,7 +24,7 @@ use Rattle.subst_indexed.proofs.DistinctLemmas.{name_at}
 use Rattle.subst_indexed.proofs.NumberingLemmas.{number_kept, number_of-new}
 use Rattle.subst_rows.proofs.ListLemmas.{slice_get-before, slice_get-last}
 use Rattle.subst_rows.specs.Columns.{columns_in, names_at}
-use Rattle.subst_rows.specs.Row.{IsLookOf, column_at, given_cell, kept_cell, row_look, value_in}
+use Rattle.subst_rows.specs.Row.{IsLookOf, cell_look, column_at, given_cell, given_or_none, kept_cell, look_in_row, row_look, value_in}
 use Rattle.subst_rows.specs.declared.row.Sources.{Sources}
 
 -- the bytes of a value
@@ -152,3 +153,17 @@ same_missing told stopped v w same is missing =
     let P : Option Fault → Type 0 = λ f. IfSome f (IsMissing w) in
     let Q : Value → Type 0 = λ u. IfSome stopped (IsMissing u) in
     subst P (sym same) (subst Q is missing)
+
+-- the look-up of a row's cells is that in the row's look-up
+pub row_look-in_row : (no_empty : Bool) (head : List (List ℕ)) (cells : ℕ → Option (List ℕ))
+    (fixed fallback : LookUp)
+    → row_look head (given_cell no_empty cells) fixed fallback
+    ≡ look_in_row no_empty (cell_look head cells) fixed fallback
+row_look-in_row no_empty head cells fixed fallback =
+    fun_ext (λ name. ap (λ cell. option_or (fixed name) (option_or cell (fallback name)))
+    (kept (number_of head name)))
+  where
+    kept : (column : Option ℕ) → option_and_then (given_cell no_empty cells) column
+        ≡ given_or_none no_empty (option_and_then cells column)
+    kept (Some index) = refl
+    kept None = refl

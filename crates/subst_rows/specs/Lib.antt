@@ -1,8 +1,11 @@
 pub mod Columns
 pub mod JsonLines
+pub mod Letter
 pub mod Lines
 pub mod Quotes
 pub mod Row
+pub mod Rows
+pub mod RowsView
 pub mod Table
 pub mod TableView
 pub mod JsonRow

@@ -45,3 +45,8 @@ cell_look head cells name = option_and_then cells (number_of head name)
 abbrev pub row_look : (head : List (List ℕ)) → (cells : ℕ → Option (List ℕ)) → (fixed fallback : LookUp) → LookUp
 row_look head cells fixed fallback name =
     option_or (fixed name) (option_or (cell_look head cells name) (fallback name))
+
+-- the look-up in a row that is a look-up: a fixed value, else the row's cell, else a fallback
+abbrev pub look_in_row : (no_empty : Bool) → (row fixed fallback : LookUp) → LookUp
+look_in_row no_empty row fixed fallback name =
+    option_or (fixed name) (option_or (given_or_none no_empty (row name)) (fallback name))

@@ -1,10 +1,10 @@
 -- The checks of a table's text, and the moves of a table.
 use Rattle.std.specs.Prelude.{◌≡◌, ◌≢◌, ℕ, List, [], ◌∷◌, length, Bool, true, false, Result, Ok, Err, IsUtf8}
-use Rattle.csv.specs.Reading.{strip_bom}
-use Rattle.subst_rows.specs.Quotes.{EndsInQuotes}
+use Rattle.csv.specs.Reading.{records, strip_bom}
+use Rattle.subst_rows.specs.Quotes.{EndsInQuotes, table_config}
 use Rattle.subst_rows.specs.TableView.{TableView}
 use Rattle.subst_rows.specs.declared.error.RowsError.{RowsError}
-use Rattle.subst_rows.specs.declared.error.RowsError.TheVariants.{OutOfMemory, NotUtf8, OpenQuote, Length}
+use Rattle.subst_rows.specs.declared.error.RowsError.TheVariants.{OutOfMemory, NotUtf8, OpenQuote, NoHead, Length}
 
 -- the result of checking a table's text
 abbrev pub IsChecked : (delimiter : ℕ) → List ℕ → Result (Unit {0}) RowsError → Type 0
@@ -12,6 +12,12 @@ IsChecked delimiter text (Ok done) = IsUtf8 text × ¬ (EndsInQuotes delimiter (
 IsChecked delimiter text (Err (NotUtf8 line)) = ¬ (IsUtf8 text)
 IsChecked delimiter text (Err (OpenQuote line)) = EndsInQuotes delimiter (strip_bom text)
 IsChecked delimiter text (Err e) = ⊥
+
+-- the error of a table that isn't opened
+abbrev pub IsRefusedHead : (delimiter : ℕ) → List ℕ → RowsError → Type 0
+IsRefusedHead delimiter text OutOfMemory = Unit {0}
+IsRefusedHead delimiter text NoHead = records (table_config delimiter) (strip_bom text) ≡ []
+IsRefusedHead delimiter text e = ⊥
 
 -- a table moved on to its next row
 pub record Moves (old new : TableView) : Type 0 where

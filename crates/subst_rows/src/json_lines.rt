@@ -47,6 +47,11 @@ impl<'t> JsonLines<'t> {
         }
     }
 
+    /// Returns the number of the line that was returned last, from 1, or 0 if there was none.
+    pub fn line(&self) -> usize {
+        self.read
+    }
+
     /// Returns the next line that isn't blank, or `None` if there is none.
     #[tactic(auto, using(crate::proofs::JsonLineLemmas::rows_of_nothing))]
     pub fn next_line(&mut self) -> Option<Line<'t>>

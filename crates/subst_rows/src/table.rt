@@ -6,7 +6,7 @@ ghost use Rattle.csv.specs.Records.{fields_of};
 ghost use Rattle.subst_rows.specs.Columns.{bytes_of};
 ghost use Rattle.subst_rows.specs.Quotes.{EndsInQuotes, table_config};
 ghost use Rattle.subst_rows.specs.TableView.{IsReading, ReadsRow};
-ghost use Rattle.subst_rows.specs.Table.{IsChecked, IsOfLength, MovesOn};
+ghost use Rattle.subst_rows.specs.Table.{IsChecked, IsOfLength, IsRefusedHead, MovesOn};
 ghost use Rattle.subst_rows.specs.declared.error.RowsError.TheVariants as errors;
 
 use crate::error::RowsError;
@@ -16,6 +16,7 @@ use crate::quotes::open_quote;
 use csv::{ByteRecord, Reader, ReaderBuilder};
 use std::alloc::{AllocError, Global};
 use std::marker::Model;
+use std::mem::swap;
 
 /// Checks that the text of a table is UTF-8, and that it doesn't end inside quotes. `delimiter` is the byte
 /// between cells.
@@ -47,6 +48,7 @@ pub struct Table<'t> {
     text: &'t [u8],
     head: ByteRecord,
     row: ByteRecord,
+    start: usize,
     progress: Progress,
 }
 
@@ -86,8 +88,7 @@ impl<'t> Table<'t> {
     pub fn new(alloc: Global, text: &'t [u8], delimiter: u8) -> Result<Self, RowsError>
         ensures ok { IfOk result (λ table. (table.failed ≡ false)
             × (records (table_config delimiter) (strip_bom text.now) ≡ table.head ∷ table.rest)) }
-        ensures no_head { IfErr result (λ e. e ≡ errors.NoHead
-            → records (table_config delimiter) (strip_bom text.now) ≡ []) }
+        ensures err { IfErr result (IsRefusedHead delimiter text.now) }
     {
         let mut reader = ReaderBuilder::new()
             .has_headers(false)
@@ -104,6 +105,7 @@ impl<'t> Table<'t> {
             text,
             head,
             row: ByteRecord::new(alloc),
+            start: 0,
             progress: Progress::Reading,
         })
     }
@@ -159,6 +161,7 @@ impl<'t> Table<'t> {
         ensures length { IsOfLength self.old result }
         ensures same { self.new ≡ self.old }
     {
+        self.start = row_start(self.text, &self.row);
         let (cells, names) = (self.row.len(), self.head.len());
         if cells != names {
             let line = self.line();
@@ -167,12 +170,19 @@ impl<'t> Table<'t> {
         Ok(true)
     }
 
-    /// Returns the line on which the current row begins, from 1.
+    /// Swaps the current row with another record. The line stays that of the row that was read last.
+    pub fn swap_row(&mut self, other: &mut ByteRecord)
+        ensures table { self.new ≡ record self.old { row = fields_of other.old } }
+        ensures other { fields_of other.new ≡ self.old.row }
+    {
+        swap(&mut self.row, other);
+    }
+
+    /// Returns the line on which the row that was read last begins, from 1.
     pub fn line(&mut self) -> usize
         ensures { self.new ≡ self.old }
     {
-        let start = row_start(self.text, &self.row);
-        self.lines.line_at(start)
+        self.lines.line_at(self.start)
     }
 }
 

@@ -2,14 +2,17 @@ use crate::columns::{columns_of, first_repeated, index_of, names_of, unmatched};
 use crate::error::RowsError;
 use crate::json_lines::JsonLines;
 use crate::json_row::json_row;
+use crate::letter::{KEPT_REFUSALS, Layout, Letter, Refusal, WriteError};
 use crate::lines::Lines;
 use crate::quotes::open_quote;
 use crate::row::{Row, Sources, append_output};
+use crate::rows::{RowBuffer, Rows, RowsFormat};
 use crate::table::{Table, cells_of, check};
 use csv::ByteRecord;
 use json::Scratch;
 use std::alloc::Global;
 use std::test::Fail;
+use subst_filter_lib::device::{ByteOutput, Failed};
 use subst_indexed::IndexedTemplate;
 
 #[test]
@@ -243,4 +246,303 @@ fn refusal(alloc: Global, bytes: &[u8]) -> Option<RowsError> {
         Ok(_) => None,
         Err(e) => Some(e),
     }
+}
+
+#[test]
+fn rows_of_a_table_are_filled_in(rt: HostRuntime) -> Result<(), Fail> {
+    let template = IndexedTemplate::from_slice(rt.alloc(), b"${town:-}$x;")?;
+    let text = b"\xef\xbb\xbfname,town,x\n\nAda,Paris,1\nBob\nCyd,,2\n";
+    let filled = filled_rows(rt.alloc(), &template, text, RowsFormat::Csv);
+    let filled = filled.expect(&rt, "an output");
+    assert_eq!(rt; filled.as_slice(), b"3 Paris1;4 !;5 2;".as_slice());
+    let text = b"x\ttown\nA\t1\n\"B\t2\"\t\n";
+    let filled = filled_rows(rt.alloc(), &template, text, RowsFormat::Tsv);
+    let filled = filled.expect(&rt, "an output");
+    assert_eq!(rt; filled.as_slice(), b"2 1A;3 B\t2;".as_slice());
+    Ok(())
+}
+
+#[test]
+fn rows_of_json_lines_are_filled_in(rt: HostRuntime) -> Result<(), Fail> {
+    let template = IndexedTemplate::from_slice(rt.alloc(), b"${town:-}$x;")?;
+    let text = b"\xef\xbb\xbf{\"x\": 1}\n \r\n[1]\n{\"x\": [2]}\n{\n{\"town\": \"Oslo\", \"x\": 3}";
+    let filled = filled_rows(rt.alloc(), &template, text, RowsFormat::JsonLines);
+    let filled = filled.expect(&rt, "an output");
+    assert_eq!(rt; filled.as_slice(), b"1 -1;3 !;4 !;5 !;6 Oslo3;".as_slice());
+    Ok(())
+}
+
+/// Returns the outputs of a template for the rows of a text, each after its line, with `!` for a refused row.
+/// They are the same if the text is read again.
+fn filled_rows(
+    alloc: Global,
+    template: &IndexedTemplate<'_>,
+    text: &[u8],
+    format: RowsFormat,
+) -> Option<Vec<u8>> {
+    let names = names_of(alloc, template).ok()?;
+    let first = read_through(alloc, template, text, format, &names)?;
+    let second = read_through(alloc, template, text, format, &names)?;
+    if first.as_slice() == second.as_slice() {
+        Some(first)
+    } else {
+        None
+    }
+}
+
+/// Returns the outputs for the rows of a text, or `None` if the text isn't opened.
+fn read_through(
+    alloc: Global,
+    template: &IndexedTemplate<'_>,
+    text: &[u8],
+    format: RowsFormat,
+    names: &[&[u8]],
+) -> Option<Vec<u8>> {
+    let mut rows = Rows::open(alloc, text, format, names, false).ok()?;
+    let columns = rows.columns(alloc).ok()?;
+    let sources = Sources {
+        fixed: &[],
+        columns: &columns,
+        fallback: &[],
+        no_empty: false,
+    };
+    let mut buffer = RowBuffer::new(alloc);
+    let mut output = Vec::new(alloc);
+    for _ in 0..text.len() {
+        match rows.next_row(alloc, &mut buffer) {
+            Ok(None) => break,
+            Ok(Some(row)) => {
+                append(&mut output, rows.line(), b"")?;
+                append_output(alloc, template, &sources, &row, &mut output).ok()?;
+            }
+            Err(_) => append(&mut output, rows.line(), b"!;")?,
+        }
+    }
+    Some(output)
+}
+
+/// Appends the digit of a line, a space and a text.
+fn append(output: &mut Vec<u8>, line: usize, text: &[u8]) -> Option<()> {
+    let digit = b"0123456789".get(line)?;
+    output.extend_from_slice(&[*digit, b' ']).ok()?;
+    output.extend_from_slice(text).ok()
+}
+
+#[test]
+fn a_head_has_the_names_of_the_columns(rt: HostRuntime) -> Result<(), Fail> {
+    let names: [&[u8]; 2] = [b"b", b"c"];
+    let rows = Rows::open(rt.alloc(), b"a,b\n", RowsFormat::Csv, &names, false);
+    let rows = rows.expect(&rt, "rows");
+    let head = rows.head(rt.alloc())?;
+    assert_eq!(rt; head.as_slice(), [b"a".as_slice(), b"b"].as_slice());
+    let rows = Rows::open(rt.alloc(), b"", RowsFormat::JsonLines, &names, false);
+    let rows = rows.expect(&rt, "rows");
+    let columns = rows.columns(rt.alloc())?;
+    assert_eq!(rt; columns.as_slice(), [Some(0), Some(1)].as_slice());
+    Ok(())
+}
+
+#[test]
+fn a_text_that_is_no_table_is_not_opened(rt: HostRuntime) {
+    assert_eq!(rt; refused_text(rt.alloc(), b"\n"), Some(RowsError::NoHead));
+    assert_eq!(rt;
+        refused_text(rt.alloc(), b"a\n\xff"),
+        Some(RowsError::NotUtf8 { line: 2 })
+    );
+    assert_eq!(rt;
+        refused_text(rt.alloc(), b"a\n\"b"),
+        Some(RowsError::OpenQuote { line: 2 })
+    );
+    assert_eq!(rt; refused_text(rt.alloc(), b"a"), None);
+}
+
+/// Returns the error of opening a table with commas.
+fn refused_text(alloc: Global, text: &[u8]) -> Option<RowsError> {
+    Rows::open(alloc, text, RowsFormat::Csv, &[], false).err()
+}
+
+/// A device that keeps what is written to it. It fails at a call of `write` after `calls_left` others.
+#[derive(Drop)]
+struct Tape {
+    bytes: Vec<u8>,
+    calls: usize,
+    calls_left: usize,
+    has_failed: bool,
+    is_flushed: bool,
+}
+
+impl Tape {
+    /// Creates an empty device.
+    fn new(alloc: Global, calls_left: usize) -> Self {
+        Tape {
+            bytes: Vec::new(alloc),
+            calls: 0,
+            calls_left,
+            has_failed: false,
+            is_flushed: false,
+        }
+    }
+}
+
+impl ByteOutput for Tape {
+    ghost use Rattle.std.specs.Prelude.{Some};
+
+    ghost written = { λ tape. Some tape.bytes.items };
+
+    ghost has_failed = { λ tape. tape.has_failed };
+
+    ghost is_flushed = { λ tape. tape.is_flushed };
+
+    fn write(&mut self, bytes: &[u8]) -> Result<usize, Failed> {
+        self.is_flushed = false;
+        if self.calls >= self.calls_left || self.bytes.extend_from_slice(bytes).is_err() {
+            self.has_failed = true;
+            return Err(Failed);
+        }
+        self.calls += 1;
+        Ok(bytes.len())
+    }
+
+    fn flush(&mut self) -> Result<(), Failed> {
+        self.is_flushed = true;
+        Ok(())
+    }
+
+    fn failed(&self) -> bool {
+        self.has_failed
+    }
+}
+
+/// Returns a letter whose values all come from rows.
+fn letter_of<'l>(
+    template: &'l IndexedTemplate<'l>,
+    names: &'l [&'l [u8]],
+    text: &'l [u8],
+    format: RowsFormat,
+) -> Letter<'l> {
+    Letter {
+        template,
+        names,
+        fixed: &[],
+        fallback: &[],
+        no_empty: false,
+        text,
+        format,
+        nested: false,
+    }
+}
+
+/// The layout of outputs with semicolons between them.
+fn with_semicolons(leaves_out: bool) -> Layout<'static> {
+    Layout {
+        separator: b";",
+        leaves_out,
+    }
+}
+
+#[test]
+fn a_letter_of_a_table_is_written(rt: HostRuntime) -> Result<(), Fail> {
+    let template = IndexedTemplate::from_slice(rt.alloc(), b"$name of $town")?;
+    let names = names_of(rt.alloc(), &template)?;
+    let text = b"name,town\nAda,Paris\nBob\nCyd,Oslo\n";
+    let letter = letter_of(&template, &names, text, RowsFormat::Csv);
+    let mut tape = Tape::new(rt.alloc(), 9);
+    let written = letter.write(rt.alloc(), with_semicolons(true), &mut tape);
+    assert!(rt; written.is_ok());
+    assert_eq!(rt;
+        tape.bytes.as_slice(),
+        b"Ada of Paris;Cyd of Oslo".as_slice()
+    );
+    assert!(rt; tape.is_flushed);
+    let written = letter.write(rt.alloc(), with_semicolons(false), &mut tape);
+    assert!(rt; matches!(written, Err(WriteError::Refused)));
+    let refused = letter.refused_rows(rt.alloc()).expect(&rt, "rows");
+    assert_eq!(rt; refused.count, 1);
+    let first = refused.first.first();
+    let length = RowsError::Length {
+        line: 3,
+        cells: 1,
+        names: 2,
+    };
+    assert!(rt; matches!(first, Some(Refusal::Row(e)) if *e == length));
+    Ok(())
+}
+
+#[test]
+fn a_letter_of_json_lines_is_collected(rt: HostRuntime) -> Result<(), Fail> {
+    let template = IndexedTemplate::from_slice(rt.alloc(), b"$name of $town")?;
+    let names = names_of(rt.alloc(), &template)?;
+    let text = b"{\"name\":1,\"town\":\"Paris\"}\n{\"name\":2}\n{\"name\":3,\"town\":\"Oslo\"}";
+    let fixed: [Option<&[u8]>; 1] = [Some(b"X")];
+    let fallback: [Option<&[u8]>; 2] = [Some(b"Y"), Some(b"Rome")];
+    let mut letter = letter_of(&template, &names, text, RowsFormat::JsonLines);
+    let all = letter.collect(rt.alloc(), with_semicolons(true));
+    let all = all.ok().expect(&rt, "outputs");
+    assert_eq!(rt; all.as_slice(), b"1 of Paris;3 of Oslo".as_slice());
+    let all = letter.collect(rt.alloc(), with_semicolons(false));
+    assert!(rt; matches!(all, Err(WriteError::Refused)));
+    let refused = letter.refused_rows(rt.alloc()).expect(&rt, "rows");
+    assert_eq!(rt; refused.count, 1);
+    let first = refused.first.first();
+    assert!(rt; matches!(first, Some(Refusal::Missing(2, missing)) if missing.name == "town"));
+    letter.fixed = &fixed;
+    letter.fallback = &fallback;
+    let all = letter.collect(rt.alloc(), with_semicolons(false));
+    let all = all.ok().expect(&rt, "outputs");
+    assert_eq!(rt;
+        all.as_slice(),
+        b"X of Paris;X of Rome;X of Oslo".as_slice()
+    );
+    assert_eq!(rt;
+        letter.refused_rows(rt.alloc()).expect(&rt, "rows").count,
+        0
+    );
+    Ok(())
+}
+
+#[test]
+fn the_first_refusals_are_kept(rt: HostRuntime) -> Result<(), Fail> {
+    let template = IndexedTemplate::from_slice(rt.alloc(), b"$a")?;
+    let names = names_of(rt.alloc(), &template)?;
+    let mut text = Vec::new(rt.alloc());
+    for _ in 0..30 {
+        text.extend_from_slice(b"[]\n")?;
+    }
+    let letter = letter_of(&template, &names, &text, RowsFormat::JsonLines);
+    let refused = letter.refused_rows(rt.alloc()).expect(&rt, "rows");
+    assert_eq!(rt; refused.count, 30);
+    assert_eq!(rt; refused.first.len(), KEPT_REFUSALS);
+    let all = letter.collect(rt.alloc(), with_semicolons(true));
+    assert_eq!(rt; all.ok().expect(&rt, "outputs").len(), 0);
+    Ok(())
+}
+
+#[test]
+fn many_outputs_are_written_in_chunks(rt: HostRuntime) -> Result<(), Fail> {
+    let template = IndexedTemplate::from_slice(rt.alloc(), b"$x")?;
+    let names = names_of(rt.alloc(), &template)?;
+    let mut outputs = b"0".to_vec(rt.alloc())?;
+    for _ in 0..3000 {
+        outputs.extend_from_slice(b"\n0123456789012345678901234567890123456789012345678")?;
+    }
+    let mut text = b"x\n".to_vec(rt.alloc())?;
+    text.extend_from_slice(&outputs)?;
+    let letter = letter_of(&template, &names, &text, RowsFormat::Csv);
+    let layout = Layout {
+        separator: b"\n",
+        leaves_out: false,
+    };
+    let mut tape = Tape::new(rt.alloc(), 9);
+    assert!(rt; letter.write(rt.alloc(), layout, &mut tape).is_ok());
+    assert!(rt; tape.bytes.as_slice() == outputs.as_slice());
+    assert_eq!(rt; tape.calls, 3);
+    let all = letter.collect(rt.alloc(), layout);
+    let all = all.ok().expect(&rt, "outputs");
+    assert!(rt; all.as_slice() == outputs.as_slice());
+    let mut tape = Tape::new(rt.alloc(), 1);
+    let written = letter.write(rt.alloc(), layout, &mut tape);
+    assert!(rt; matches!(written, Err(WriteError::Failed)));
+    assert!(rt; outputs.starts_with(&tape.bytes));
+    assert!(rt; tape.failed());
+    Ok(())
 }
