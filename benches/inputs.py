@@ -285,6 +285,26 @@ def document(kind, length=None):
     return Input(text_of(objects).encode(), variables)
 
 
+# A letter, and tables of the values of its names.
+
+COLUMNS = [f"name_{number}" for number in range(10)]
+
+
+def letter():
+    """Returns a template of 1 KiB with ten names, one after each 90 bytes."""
+    rng = random.Random(8)
+    return "".join(f"{filler(rng, 90)}${{{name}}} " for name in COLUMNS) + filler(rng, 23) + "\n"
+
+
+def table(count):
+    """Yields the lines of a table in CSV, a head and this many rows. Each cell is one of a thousand short words."""
+    rng = random.Random(9)
+    words = [drawn(rng, VALUES, rng.randrange(4, 13)) for _ in range(1000)]
+    yield ",".join(COLUMNS) + "\n"
+    for _ in range(count):
+        yield ",".join(rng.choices(words, k=len(COLUMNS))) + "\n"
+
+
 def main():
     sums = {name: made.sum() for name, made in every().items()}
     known = {name: its_sum for name, (its_sum, _) in figures().items()}

@@ -1,7 +1,7 @@
 #!/usr/bin/env python3
 """run.py [--runs N] [--only WORD] [--write] [TABLE ..]   Times the programs and counts the instructions of the library.
 
-Prints these tables of RESULTS.md, or all, as Markdown: times, process, programs, texts, letters, calls, growth,
+Prints these tables of RESULTS.md, or all, as Markdown: times, process, programs, texts, letters, rows, calls, growth,
 hostile, json, toml and, as SVG, chart. README.md describes them. With --only, uses only those inputs of inputs.py that
 have this word in their titles or as their name, and the empty one. With --write, puts the tables into RESULTS.md and
 the chart into chart.svg.
@@ -47,6 +47,12 @@ PERL = r"s/\$(?:\{(\w+)\}|(\w+))/$ENV{$1 \/\/ $2}/gea"
 PERL_WITH_DEFAULTS = r"s/\$(?:\{(\w+)(?::([^{}]*))?\}|(\w+))/$ENV{$1 \/\/ $3} \/\/ $2/gea"
 PERL_WITH_ESCAPES = r"s/\\([\\\$\{\}:])|\$(?:\{(\w+)\}|(\w+))/$1 \/\/ $ENV{$2 \/\/ $3}/gea"
 PYTHON = "import os, string, sys; sys.stdout.write(string.Template(sys.stdin.read()).substitute(os.environ))"
+
+# A letter for each row of a table: the program's crate, the numbers of rows, and the programs of others.
+COMMAND, ROWS, FEW_ROWS, MOST_RUNS = "subst_cli", 1_000_000, 2_000, 3
+PYTHON_OF_ROWS = ("import csv, string, sys; letter = string.Template(open(sys.argv[1]).read()); "
+                  "sys.stdout.writelines(map(letter.substitute, csv.DictReader(sys.stdin)))")
+ENVSUBST_OF_ROWS = 'export $names; read -r head; while IFS=, read -r $names; do envsubst <"$0"; done'
 
 
 class Workload(NamedTuple):
@@ -360,6 +366,39 @@ def table_of_letters(options):
     return title, ["Input", *columns, "requests: expand", "into"], rows
 
 
+def runs_of_rows(count):
+    """Returns the runs of programs that fill in a letter for each row of a table with this many rows."""
+    path, source = FOLDER / "letter", "".join(inputs.table(count)).encode()
+    path.write_text(inputs.letter(), encoding="ascii")
+    commands = {
+        "subst": [program(COMMAND), "--rows", "-", "--rows-format", "csv", path],
+        "csv and string.Template": [sys.executable, "-I", "-S", "-c", PYTHON_OF_ROWS, path],
+        "envsubst": ["sh", "-c", ENVSUBST_OF_ROWS, path],
+    }
+    is_there = {"envsubst": shutil.which("envsubst")}
+    return {name: run_on(source, shutil.which(command[0]), *command[1:], names=" ".join(inputs.COLUMNS))
+            for name, command in commands.items() if is_there.get(name, True)}
+
+
+def table_of_rows(options):
+    processors, turns, rows = os.sched_getaffinity(0), min(options.runs, MOST_RUNS), []
+    os.sched_setaffinity(0, {min(processors)})
+    for count in (ROWS, FEW_ROWS):
+        runs = runs_of_rows(count)
+        if count == FEW_ROWS and len(set(map(output_of, runs.values()))) > 1:
+            sys.exit("rows: a program writes something else")
+        for name in [it for it in runs if (it == "envsubst") == (count == FEW_ROWS)]:
+            taken, memory = zip(*(measured(runs[name]) for _ in range(turns)))
+            seconds = min(taken) / 1000 * ROWS / count
+            rows.append([name, f"{seconds:,.2f}", f"{seconds / ROWS * 1e6:,.2f}", f"{max(memory):,}"])
+    os.sched_setaffinity(0, processors)
+    title = (f"A letter of 1 KiB with ten names, filled in for each of {ROWS:,} rows of a table in CSV: seconds on one "
+             f"processor, the least of {turns} runs, start-up included, microseconds a row, and the most memory in KiB. "
+             f"`envsubst` runs once a row, with the row in its environment; its time is that of {FEW_ROWS:,} rows, "
+             f"multiplied by {ROWS // FEW_ROWS}:")
+    return title, ["Program", "seconds", "microseconds a row", "KiB"], rows
+
+
 def measures(workload, options):
     """Returns the milliseconds of our program, its instructions, and those in process."""
     return times(workload, options.runs)[OURS], instructions_of(workload, OURS), counted(workload, "both")
@@ -462,6 +501,7 @@ TABLES = {
     "programs": table_of_programs,
     "texts": table_of_texts,
     "letters": table_of_letters,
+    "rows": table_of_rows,
     "calls": table_of_calls,
     "growth": table_of_growth,
     "hostile": table_of_hostile_sources,

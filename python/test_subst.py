@@ -526,8 +526,23 @@ class Templates(Case):
         self.assertEqual(repr(Template(b'$a')), "Template(b'$a')")
         with self.assertRaises(AttributeError):
             template.source = '$b'
-        for other in (copy.deepcopy(template), pickle.loads(pickle.dumps(template))):
-            self.assertEqual(other.fill_in({'a': '1'}), '1')
+
+    def test_copies(self):
+        """A copy has the options of its template, and cells of its own, also after the template was expanded."""
+        for template, row, wanted, name in (
+                (Template('é$a${b:$a}'), {'a': 'x'}, 'éxx', 'a'), (Template(b'\xff$a'), {b'a': b'\xfe'}, b'\xff\xfe', 'a'),
+                (Template('$a $b \\', only=['b']), {'b': 'x'}, '$a x \\', 'b'),
+                (Template(bytearray(b'$a $b'), only=[b'a', b'b'], optional=True), {b'b': b'x'}, b' x', None),
+                (Template('${a:x}$b', no_empty=True), {'a': '', 'b': 'y'}, 'xy', 'b'),
+                (Template('$a' * 3000), {'a': 'é'}, 'é' * 3000, 'a')):
+            for _ in range(4):
+                made = [copy.copy(template), copy.deepcopy({'letter': template})['letter']]
+                made += [pickle.loads(pickle.dumps(template, number)) for number in range(pickle.HIGHEST_PROTOCOL + 1)]
+                for other in (template, *made, pickle.loads(pickle.dumps(made[-1]))):
+                    self.assertEqual((other, hash(other), repr(other)), (template, hash(template), repr(template)))
+                    self.assertEqual((other.fill_in(row), other.fill_in_each([row] * 2)), (wanted, [wanted] * 2))
+                    self.assertEqual((other.missing(row), other.variables()), ([], template.variables()))
+                    self.assertEqual(self.refused(other.fill_in, {}).name if name else None, name)
 
     def test_lists(self):
         source = 'ä$a ${b?} ${c:x$a${d}}'
@@ -1041,6 +1056,15 @@ class Package(Case):
             self.assertEqual(self.imported(folder, code, **more), 'True x')
             pathlib.Path(folder, 'subst/_fast.abi3.so').write_bytes(b'no library')
             self.assertEqual(self.imported(folder, code, **more), 'True x')
+
+    def test_pickled_templates(self):
+        """A pickled template is loaded by another process, with the module in C or without it, and sent back."""
+        template, package = Template('${a:x}$b', no_empty=True, only=['b']), pathlib.Path(subst.__file__).parent.parent
+        code = (f'import pickle; letter = pickle.loads({pickle.dumps(template)!r}); print(pickle.dumps(letter).hex(), '
+                'letter._source.fast is None, *letter.fill_in_each([{"b": "y"}]))')
+        for more, is_slow in (({}, template._source.fast is None), ({'SUBST_FAST': '0'}, True)):
+            data, *said = self.imported(package, code, SUBST_LIBRARY=_library.library._name, **more).split()
+            self.assertEqual((pickle.loads(bytes.fromhex(data)), said), (template, [str(is_slow), '${a:x}y']))
 
     def test_names(self):
         for name in subst.__all__:

@@ -77,6 +77,28 @@ class Value(ctypes.Structure):
     _fields_ = [('bytes', ctypes.c_char_p), ('length', ctypes.c_size_t), ('given', ctypes.c_uint32)]
 
 
+class Pair(ctypes.Structure):
+    """subst_pair of subst.h."""
+    _fields_ = [('name', ctypes.c_char_p), ('name_len', ctypes.c_size_t),
+                ('value', ctypes.c_char_p), ('value_len', ctypes.c_size_t)]
+
+
+def pairs_of(variables):
+    return (Pair * len(variables))(*(Pair(name, len(name), it, len(it)) for name, it in variables.items()))
+
+
+class Style(ctypes.Structure):
+    """subst_style of subst.h."""
+    _fields_ = [('forms', ctypes.c_uint32), ('names', ctypes.c_uint32), ('unset', ctypes.c_uint32),
+                ('only', ctypes.POINTER(Pair)), ('only_len', ctypes.c_size_t)]
+
+
+class StyleFault(ctypes.Structure):
+    """subst_style_fault of subst.h."""
+    _fields_ = [('kind', ctypes.c_uint32), ('form', ctypes.c_uint32),
+                *((name, ctypes.c_size_t) for name in ('position', 'length', 'message_position', 'message_length'))]
+
+
 class Kept:
     """The calls for templates that C keeps, with names of the package for Python. Sources and variables are bytes."""
 
@@ -133,6 +155,32 @@ class Kept:
         found = [variables.get(source[it.position:it.position + it.length]) for it in uses]
         values = (Value * len(found))(*(Value(it, len(it or b''), it is not None) for it in found))
         return self.done('subst_expand', ctypes.c_char, source, *sized(cells), *sized(source), *sized(values)).raw
+
+    def fill_in_by_style(self, text, variables, style):
+        """Returns the output of a text of another tool, or the record of its fault, from the text's template."""
+        fault, of_text = Place(), StyleFault()
+        result, template = self.items('subst_template_by_style', ctypes.c_char, *sized(text), ctypes.byref(style),
+                                      last=[of_text])
+        if result == REFUSED:
+            return of_text
+        source = template.raw
+        cells, uses = self.parsed(source)
+        values = (Value * len(uses))()
+        for number, use in enumerate(uses):
+            variable = (*sized(cells), *sized(source), style.forms, ctypes.c_size_t(number))
+            self.library.subst_template_variable_by_style(*variable, ctypes.byref(use))
+            found = variables.get(source[use.position:use.position + use.length])
+            values[number] = Value(found, len(found or b''), found is not None)
+            result = self.library.subst_value_by_style(*variable, ctypes.byref(values[number]))
+            assert result == DONE, f'value {number} of {text} returns {result}'
+        result, output = self.items('subst_expand', ctypes.c_char, *sized(cells), *sized(source), *sized(values),
+                                    last=[fault])
+        if result == DONE:
+            return output.raw
+        result = self.library.subst_fault_by_style(*sized(text), ctypes.byref(style), *sized(source),
+                                                   ctypes.byref(fault), ctypes.byref(of_text))
+        assert result == DONE, f'the fault of {text} returns {result}'
+        return of_text
 
 
 @functools.lru_cache(None)

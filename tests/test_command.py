@@ -27,10 +27,17 @@ Variables:
       --keep-line-end         Keep the last line end of a file whose contents are a value
   -e, --env                   Use the environment's variables
       --dotenv <FILE>         Read a .env file, with quotes, 'export', comments, and variables as with --shell
-      --default <NAME=VALUE>  Set NAME to VALUE if no option above sets it
-      --defaults <FILE>       Read FILE as --values does, for names that no option above sets
+      --default <NAME=VALUE>  Set NAME to VALUE if no row and no option above sets it
+      --defaults <FILE>       Read FILE as --values does, for names that no row and no option above sets
       --no-empty              Treat empty values as unset
       --escape <json|sh>      Escape values for sh or json; in YAML, json is right only between double quotes (see --yaml)
+
+Rows:
+      --rows <FILE>                  Expand the template once for each row of FILE: .csv, .tsv or .jsonl; '-' is standard input
+      --rows-format <csv|tsv|jsonl>  Read rows in this format, whatever the ending of FILE
+      --separator <TEXT>             Write TEXT between the outputs of rows; nothing by default
+      --nested <json>                Insert arrays and objects of JSON Lines as their JSON text; by default they are errors
+      --keep-going                   Report and leave out rows that are refused, and write the others
 
 Formats:
       --format <%s>
@@ -68,10 +75,11 @@ Asking:
 A backslash escapes \\ $ { } and :. With --only, --envsubst, --known or --shell,
 a backslash is text.
 
-Precedence of values, the first one wins: --set, --set-file, values files, the
-environment, .env files, --default, defaults files. All unset variables of a
-file are reported. If it has another error, only that error is reported; with
---only, --envsubst, --known or --shell, all refused forms are reported.
+Precedence of values, the first one wins: --set, --set-file, the row, values
+files, the environment, .env files, --default, defaults files. All unset
+variables of a file are reported. If it has another error, only that error is
+reported; with --only, --envsubst, --known or --shell, all refused forms are
+reported.
 
 Exit status: 0 done, 1 a file or value is refused, 2 wrong arguments, 3 a file
 or device failed, 4 out of memory. See subst(1) for more.
@@ -98,8 +106,13 @@ class Help(Subst):
             self.assert_failed(['--help'], failed('<stdout>', errno.ENOSPC), stdout=full)
 
 
+# Options that conflict with --rows, as in messages.
+NOT_WITH_ROWS = ('--escape <json|sh>', f'--format <{FORMATS}>', '--json', '--toml', '--yaml', '--auto', '--only <NAMES>',
+                 '--envsubst', '--known', '--shell', '--compose', '--strict', '--optional', '--output-folder <FOLDER>',
+                 '--strip <SUFFIX>', '--in-place', '--names')
 # Pairs of conflicting options, as arguments and in messages.
 CONFLICTS = (
+    *(('--rows <FILE>', other) for other in NOT_WITH_ROWS),
     *itertools.combinations([f'--format <{FORMATS}>', '--json', '--toml', '--yaml', '--bytes', '--auto'], 2),
     ('--only <NAMES>', '--known'), ('--envsubst', '--shell'), ('--envsubst', '--compose'),
     ('--known', '--names'),

@@ -44,6 +44,13 @@ class Style(NamedTuple):
         given = [word for name, value in variables.items() for word in (b'-s', name + b'=' + value)]
         return [*FORMS[self.forms], *names, *MISSING[self.forms, self.missing], *(given or ['-f', os.devnull])]
 
+    def in_c(self, variables):
+        """Returns the style for C, with the names as pairs."""
+        chosen = dict.fromkeys(self.names.encode().split(b','), b'')
+        choice, only = {ALL: (0, {}), KNOWN: (2, variables)}.get(self.names, (1, chosen))
+        pairs = installed.pairs_of(only)
+        return installed.Style(list(FORMS).index(self.forms), choice, self.missing == NOTHING, pairs, len(pairs))
+
     def answer(self, text, variables):
         """Returns the answer of the reader to a text."""
         chosen = foreign_reader.only(self.names.encode().split(b','))
@@ -86,6 +93,26 @@ def rows():
             text, forms, names, missing, variables, what, expected = line.split('\t')
             yield Row(number, decode(text), Style(forms, names, missing), variables_of(variables),
                       ANSWERS[what](expected))
+
+
+def first_of(answer):
+    """Returns the output of a text, or its first refused form, or the position and the name of its first fault."""
+    first = answer if isinstance(answer, bytes) else answer[0]
+    return first[:2] if isinstance(first, Fault) else first
+
+
+def refusal_in_c(position, form):
+    return Refusal(position, installed.module().ShellForm(form).name.title().replace('_', ''))
+
+
+def kept_answer(text, style, variables):
+    """Returns what `first_of` does, by the template of a text that C keeps."""
+    answer = installed.kept().fill_in_by_style(text, variables, style)
+    if isinstance(answer, bytes):
+        return answer
+    if answer.form:
+        return refusal_in_c(answer.position, answer.form)
+    return answer.position, text[answer.position:answer.position + answer.length]
 
 
 # Random texts
@@ -323,7 +350,7 @@ class Python(Built):
             return subst.fill_in_by_style(row.text, row.variables, forms=subst.Forms[forms.upper()],
                                           optional=missing == NOTHING, **choice)
         except subst.ShellError as error:
-            return Refusal(error.position, error.form.name.title().replace('_', ''))
+            return refusal_in_c(error.position, error.form)
         except subst.SubstError as error:
             return error.position, error.name.encode(), error.message
 
@@ -335,6 +362,13 @@ class Python(Built):
                 wanted = (first.at, first.name, text_of(first, str)) if isinstance(first, Fault) else first
                 with self.subTest(line=row.line, text=row.text):
                     self.assertEqual(self.answer(subst, row), wanted)
+
+    def test_rows_of_kept_templates(self):
+        for row in rows():
+            if '*' not in row.style.names:
+                with self.subTest(line=row.line, text=row.text):
+                    style = row.style.in_c(row.variables)
+                    self.assertEqual(kept_answer(row.text, style, row.variables), first_of(row.answer))
 
 
 class RandomTexts(Subst):
@@ -352,6 +386,9 @@ class RandomTexts(Subst):
                 answers = {file: style.answer(text, VALUES) for file, text in files.items()}
                 self.assert_errors(style, files, answers)
                 self.assert_outputs(style, files, answers)
+                in_c = style.in_c(VALUES)
+                for file, text in files.items():
+                    self.assertEqual(kept_answer(text, in_c, VALUES), first_of(answers[file]), f'{style}: {text}')
 
     def assert_errors(self, style, files, answers):
         """Fails unless a check of all files reports the errors of each, and no others."""

@@ -286,3 +286,36 @@ class Escapes(Subst):
         self.assert_done(['--escape=sh', '--set-file=A=value'], b'$A', b"'" + value.encode().replace(b"'", b"'\\''")
                          + b"'")
         self.assert_done(['--escape=json', '--set-file=A=value'], b'$A', value.encode().replace(b'"', b'\\"'))
+
+
+class Rows(Subst):
+    """Wrong arguments about rows."""
+
+    def test_options_that_need_rows(self):
+        for word in ('--rows-format=csv', '--separator=', '--nested=json', '--keep-going'):
+            self.assert_wrong([word], f"{word.split('=')[0]} needs --rows")
+
+    def test_format_of_rows(self):
+        for name in ('', 'CSV', 'json', 'jsonl '):
+            self.assert_wrong(['--rows=a.csv', f'--rows-format={name}'], '--rows-format must be csv, tsv or jsonl')
+        text = "--rows needs --rows-format, since the file's ending isn't .csv, .tsv or .jsonl"
+        for file in ('-', 'a', 'csv', 'a.CSV', 'a.json', 'a.csv.gz'):
+            self.assert_wrong([f'--rows={file}', 'template'], text)
+        for name in ('', 'JSON', 'csv'):
+            self.assert_wrong(['--rows=a.jsonl', f'--nested={name}'], '--nested must be json')
+
+    def test_rows_take_one_template(self):
+        for files in (['a', 'b'], ['a', 'a'], ['-', 'a']):
+            self.assert_wrong(['--rows=a.csv', *files], '--rows takes one template')
+
+    def test_rows_of_standard_input(self):
+        write('a', b'$A')
+        for name in ('-', '/dev/stdin', '/dev/fd/0'):
+            for words in ([], ['-'], ['a', '-f', '-'], ['a', '--dotenv=-'], ['a', '--set-file=A=-']):
+                self.assert_wrong([f'--rows={name}', '--rows-format=csv', *words], READ_ONCE)
+
+    def test_options_of_rows_are_given_once(self):
+        for option, value in (('--rows', 'FILE'), ('--rows-format', 'csv|tsv|jsonl'), ('--separator', 'TEXT'),
+                              ('--nested', 'json')):
+            self.assert_wrong(['--rows=a.csv'] * (option != '--rows') + [f'{option}=a', f'{option}=a'],
+                              f"the argument '{option} <{value}>' cannot be used multiple times")

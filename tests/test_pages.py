@@ -79,7 +79,8 @@ class Completions(Case):
             ('--set = A = b', nothing), ('--set =', nothing), ('--only A', nothing), ('--only = A', nothing),
             ('-O f', folders), ('-eO f', folders), ('--output-folder f', folders), ('--output-folder = f', folders),
             ('--escape j', [*nothing, 'json']), ('--escape = s', [*nothing, 'sh']),
-            ('--escape =', [*nothing, 'json', 'sh']), ('--escape x', nothing))
+            ('--escape =', [*nothing, 'json', 'sh']), ('--escape x', nothing), ('--nested =', [*nothing, 'json']),
+            ('--rows f', files), ('--rows-format t', [*nothing, 'tsv']), ('--separator f', nothing))
 
     @needs('zsh')
     def test_zsh_loads_its_completion(self):

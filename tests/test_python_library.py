@@ -48,6 +48,20 @@ class PythonLibrary(Built):
         folder = packages(prefix())
         self.assert_passes(sys.executable, folder, PYTHONPATH=str(folder))
 
+    def test_letters_by_dask(self):
+        """The program of docs/LETTERS.md, by the first Python that has Dask, makes a file of letters of each of rows."""
+        pythons = (it for it in (sys.executable, '/usr/bin/python3') if shutil.which(it))
+        python = next((it for it in pythons if ended([it, '-c', 'import dask.bag']).returncode == 0), None)
+        if python is None:
+            self.skipTest('Dask is not installed')
+        page = (TOP / 'docs/LETTERS.md').read_text(encoding='utf-8')
+        for name, text in (('letters.py', re.search(r'^```python\n(.*?)^```$', page, re.MULTILINE | re.DOTALL)[1]),
+                           ('a.jsonl', '{"name":"Ann"}\n{"name":"Zo\u00eb","city":"Paris"}\n'), ('b.jsonl', '{"name":"$x"}')):
+            pathlib.Path(name).write_text(text, encoding='utf-8')
+        ran([python, '-B', 'letters.py'], env={**os.environ, 'PYTHONPATH': str(packages(prefix()))}, timeout=600)
+        written = [pathlib.Path(f'letters/{number}.txt').read_text(encoding='utf-8') for number in range(2)]
+        self.assertEqual(written, ['Dear Ann in town\nDear Zo\u00eb in Paris', 'Dear $x in town'])
+
     def test_without_a_compiler_the_package_has_no_module_in_c(self):
         said = ran([TOP / 'tools/install', '--python', os.path.abspath('prefix')], env={**os.environ, 'CC': 'none'})
         self.assertIn('tools/install: the package has no module in C: that needs none and ', said)

@@ -16,13 +16,16 @@ TAKES = re.compile(r'takes: Some\(\("([^"]+)", Uses::(\w+)\)\)')
 
 
 class Option(NamedTuple):
-    """An option. Its letter and its value are empty if it has none. A value may list all choices, as a|b."""
+    """An option. Its letter and its value are empty if it has none. A value in lower case lists all choices, as a|b."""
     letter: str
     name: str
     value: str
     text: str
     conflicts: tuple = ()
     repeats: bool = False
+
+    def has_choices(self):
+        return self.value.islower()
 
 
 # The options that the command-line library handles.
@@ -91,11 +94,11 @@ def bash():
     kinds = {'FILE_': [it for it in options() if it.value == 'FILE'],
              'FOLDER_': [it for it in options() if it.value == 'FOLDER'],
              'FLAG_': [it for it in options() if not it.value and it not in OF_LIBRARY],
-             '': [it for it in options() if it.value not in ('', 'FILE', 'FOLDER') and '|' not in it.value]}
+             '': [it for it in options() if it.value not in ('', 'FILE', 'FOLDER') and not it.has_choices()]}
     choices = ''.join(f'  elif [[ $before == --{it.name} || $word == --{it.name}=* ]]; then\n'
                       f'    compopt +o bashdefault +o default\n'
                       f"    mapfile -t COMPREPLY < <(compgen -W '{it.value.replace('|', ' ')}' -- \"${{word#*=}}\")\n"
-                      for it in options() if '|' in it.value)
+                      for it in options() if it.has_choices())
     meant = {'WORDS': ' '.join(words(options())), 'CHOICES': choices}
     for kind, chosen in kinds.items():
         meant[f'{kind}LONG'] = '|'.join(f'--{it.name}' for it in chosen)
@@ -108,7 +111,7 @@ def zsh_words(option):
     others = '- *' if option in OF_LIBRARY else ' '.join(excluded(option))
     before = (f'({others})' if others else '') + '*' * option.repeats
     offered = {'FILE': '_files', 'FOLDER': '_files -/'}.get(option.value, ' ')
-    if '|' in option.value:
+    if option.has_choices():
         offered = f"({option.value.replace('|', ' ')})"
     takes = f':{option.value.lower()}:{offered}' if option.value else ''
     letter, name = option.letter + '+' * bool(takes), option.name + '=' * bool(takes)
@@ -128,7 +131,7 @@ def fish():
     for option in options():
         letter = f' -s {option.letter}' if option.letter else ''
         takes = {'': '', 'FILE': ' -r -F', 'FOLDER': " -x -a '(__fish_complete_directories)'"}.get(option.value, ' -x')
-        if '|' in option.value:
+        if option.has_choices():
             takes = f" -x -a '{option.value.replace('|', ' ')}'"
         text = quoted(option.text, r"\'")
         made += f'complete -c subst{letter} -l {option.name}{takes} -d {text}\n'

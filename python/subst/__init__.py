@@ -61,7 +61,7 @@ _BytesLike = Union[bytes, bytearray, memoryview]
 
 class Template(Generic[AnyStr]):
     """A checked source: only an unset variable can be wrong with it. It is immutable, and equal to any other with the
-    same source, only, optional and no_empty.
+    same source, only, optional and no_empty. So is each copy, also by pickle, which parses the source again.
 
         >>> letter = Template('Dear ${name:friend},')
         >>> letter.fill_in_each([{'name': 'Ann'}, {}])

@@ -1,18 +1,19 @@
 -- Lemmas on arguments: pairs NAME=VALUE, and names after a dollar.
 use Rattle.std.proofs.Common.{◌≡◌, ◌≢◌, ◌<◌, ◌≤◌, ◌-◌, ◌++◌, ◌↔◌, ◌∙◌, ℕ, Bool, true, false, List, [], ◌∷◌, length, map, take, drop, Option, Some, None, IsTrue, arith, ap, refl, subst, sym}
 use Rattle.std.proofs.Math.Seq.{drop-append_seam, take-append_seam}
-use Rattle.std.proofs.lemmas.List.{length-append, take-append-drop, take_all}
+use Rattle.std.proofs.lemmas.List.{length-append, length-map, take-append-drop, take_all}
 use Rattle.std.proofs.lemmas.Simd.{map-map}
 use Rattle.std.proofs.lemmas.Slice.Eq.{bytes_eq-Decides}
 use Rattle.std.specs.Borrow.{Bor}
 use Rattle.std.specs.List.{position_or_len}
-use Rattle.std.specs.Prelude.{◌==◌, MatchOption, unwrap_or}
+use Rattle.std.specs.Prelude.{◌==◌, MatchOption, is_some, option_map, unwrap_or}
 use Rattle.std.specs.Str.{bytes_eq}
+use Rattle.clap.specs.Walk.{texts}
 use Rattle.subst_filter_lib.proofs.ArgumentLemmas.{is_some_if_passes}
 use Rattle.subst_filter_lib.specs.Arguments.{is_equals_sign, is_pair, name_in, value_in}
 use Rattle.subst_language.specs.Language.Name.{IsName}
 use Rattle.subst_cli.proofs.EntryLemmas.{spelled_by}
-use Rattle.subst_cli.specs.Arguments.{after_byte, before_byte, pair_in}
+use Rattle.subst_cli.specs.Arguments.{after_byte, before_byte, files_or_input, pair_in}
 use Rattle.subst_cli.specs.Layers.{is_spelled}
 
 -- an argument without `=` is no pair
@@ -103,3 +104,30 @@ pub all_pairs : {P : Type 0} (pair_of : P → Option (List ℕ × List ℕ)) (ar
 all_pairs pair_of arguments items at pairs texts same past are listed =
     are ∙ (ap (map (λ (argument : Bor (List ℕ)). pair_in argument.now)) (take_all at items past ∙ same)
     ∙ (sym (map-map pair_in (λ (argument : Bor (List ℕ)). argument.now) arguments) ∙ ap (map pair_in) listed))
+
+-- there is one file to be expanded if at most one is named
+pub one_file : (all files : List (Bor (List ℕ))) → texts all ≡ files_or_input (texts files)
+    → length files ≤ 1 → length all ≡ 1
+one_file all [] same few = sym (length-map all (λ file. file.now)) ∙ ap length same
+one_file all (file ∷ []) same few = sym (length-map all (λ file. file.now)) ∙ ap length same
+one_file all (file ∷ other ∷ files) same few = absurd (omega (arith, few))
+
+-- the text of an option, or a default text
+pub text_or : (found : Option (Bor (List ℕ))) (default text : Bor (List ℕ)) (value : Option (List ℕ))
+    → text ≡ unwrap_or found default → option_map (λ t. t.now) found ≡ value
+    → text.now ≡ unwrap_or value default.now
+text_or None default text value is same =
+    ap (λ (t : Bor (List ℕ)). t.now) is ∙ ap (λ v. unwrap_or v default.now) same
+text_or (Some other) default text value is same =
+    ap (λ (t : Bor (List ℕ)). t.now) is ∙ ap (λ v. unwrap_or v default.now) same
+
+-- a text is there if its bytes are
+pub is_some_text : (found : Option (Bor (List ℕ))) (value : Option (List ℕ))
+    → option_map (λ t. t.now) found ≡ value → is_some found ≡ is_some value
+is_some_text None value same = ap is_some same
+is_some_text (Some text) value same = ap is_some same
+
+-- an option without a value is none
+pub none_if : (value : Option (List ℕ)) → is_some value ≡ false → value ≡ None
+none_if None absent = refl
+none_if (Some text) absent = absurd cc

@@ -10,6 +10,7 @@ pub mod ExpansionLemmas
 pub mod FaultLemmas
 pub mod FillLemmas
 pub mod LayerLemmas
+pub mod LetterLemmas
 pub mod ListLemmas
 pub mod ListingLemmas
 pub mod MapBackLemmas
@@ -18,6 +19,7 @@ pub mod MistakeLemmas
 pub mod ParsedLemmas
 pub mod PartLemmas
 pub mod PositionLemmas
+pub mod ReadLemmas
 pub mod RunLemmas
 pub mod ValuesFileLemmas
 pub mod WholeRunLemmas

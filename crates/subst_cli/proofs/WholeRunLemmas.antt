@@ -1,20 +1,20 @@
 -- Lemmas on runs with options.
 use denote.Ref.{Bor}
-use Rattle.std.proofs.Common.{◌≡◌, ◌==◌, ◌∷◌, ℕ, Bool, true, false, List, [], ◌++◌, Option, OnOk, Result, arith, inl, inr, refl, sym}
+use Rattle.std.proofs.Common.{◌≡◌, ◌==◌, ℕ, Bool, true, false, List, [], None, Option, OnOk, Result, Some, arith, inl, inr, refl, subst, sym}
 use Rattle.std.proofs.lemmas.Grind.{common_steps}
-use Rattle.std.proofs.lemmas.List.Elements.{All-append, All-from_recursion}
 use Rattle.std.specs.Prelude.{◌⊎◌, IsErr}
 use Rattle.subst_cli.proofs.ExpandedLemmas.{keeps}
 use Rattle.subst_cli.proofs.RunLemmas.{no_success}
-use Rattle.subst_cli.proofs.WrittenLemmas.{calls_then, no_calls}
+use Rattle.subst_cli.proofs.WrittenLemmas.{no_calls}
 use Rattle.subst_cli.specs.Expanded.{IsPrinted}
 use Rattle.subst_cli.specs.Run.{entries_for}
 use Rattle.subst_cli.specs.declared.layers.Layers.{Layers}
 use Rattle.subst_filter_lib.specs.declared.status.TheConstants.{DONE}
-use Rattle.subst_cli.specs.Files.{Event, GoesOn, Read, Unread}
+use Rattle.subst_cli.specs.Files.{Event, OnlyReads}
 use Rattle.subst_cli.specs.Layers.{AreVariablesOf, Entry, ForEntries, entries_of}
+use Rattle.subst_cli.specs.Letters.{IsRowsRun, look_for}
 use Rattle.subst_cli.specs.Status.{status_of}
-use Rattle.subst_cli.specs.WholeRun.{ExpandsAll, HandlesTemplates, IsRead, IsWholeRun, OnlyReads, Performs}
+use Rattle.subst_cli.specs.WholeRun.{Acts, ExpandsAll, HandlesTemplates, IsWholeRun, Performs}
 use Rattle.subst_cli.specs.Written.{IsCheckRun, IsReplaceRun, IsRun, WritesInto, none_checked, none_replaced, none_written}
 use Rattle.subst_cli.specs.declared.entry.Entry.{Entry as CodeEntry}
 use Rattle.subst_cli.specs.declared.expansion.Expander.{Expander}
@@ -22,33 +22,9 @@ use Rattle.subst_cli.specs.declared.layers.Variables.{Variables}
 use Rattle.subst_cli.specs.declared.options.Action.{Action}
 use Rattle.subst_cli.specs.declared.options.Action.TheVariants.{Check, ListNames, Print, Replace, WriteInto, WriteTo}
 use Rattle.subst_cli.specs.declared.options.Options.{Options}
+use Rattle.subst_cli.specs.declared.options.RowsOptions.{RowsOptions}
 use Rattle.subst_cli.specs.declared.report.Severity.{Severity}
 use Rattle.subst_cli.specs.declared.templates.Template.{Template}
-
--- no calls
-pub no_reads : (at : Option (List Event)) → OnlyReads at at
-unfolding OnlyReads
-no_reads at = ([], All-from_recursion IsRead [] tt, no_calls at)
-
--- a file was read
-pub read_one : (old new : Option (List Event)) (path bytes : List ℕ) → GoesOn old new (Read path bytes ∷ [])
-    → OnlyReads old new
-unfolding OnlyReads
-read_one old new path bytes went =
-    (Read path bytes ∷ [], All-from_recursion IsRead (Read path bytes ∷ []) (tt, tt), went)
-
--- a file couldn't be read
-pub unread_one : (old new : Option (List Event)) (path : List ℕ) → GoesOn old new (Unread path ∷ [])
-    → OnlyReads old new
-unfolding OnlyReads
-unread_one old new path went = (Unread path ∷ [], All-from_recursion IsRead (Unread path ∷ []) (tt, tt), went)
-
--- reads after reads
-pub reads_then : (old mid new : Option (List Event)) → OnlyReads old mid → OnlyReads mid new
-    → OnlyReads old new
-unfolding OnlyReads
-reads_then old mid new (xs, some, first) (ys, more, second) =
-    (xs ++ ys, All-append IsRead xs ys some more, calls_then old mid new xs ys first second)
 
 -- variables are those of the entries that they were made of
 pub variables_for : (variables made : Variables) (entries items : List CodeEntry) → variables ≡ made
@@ -64,6 +40,11 @@ is_reported empty worst told is none = grind (arith, common_steps, told, is, non
 pub none_reported : (empty : Bool) (worst : Severity) → empty ≡ (status_of worst == DONE) → empty ≡ true
     → status_of worst ≡ DONE
 none_reported empty worst told is = grind (arith, common_steps, told, is)
+
+-- no rows are given
+pub no_rows : (rows : Option RowsOptions) → ((it : RowsOptions) → ¬ (rows ≡ Some it)) → rows ≡ None
+no_rows None other = refl
+no_rows (Some it) other = absurd (other it refl)
 
 module _ {E : Type 0} (options : Options) (worst : Severity) (result : Result (Unit {0}) E) where
   -- no template was handled, because memory ran out before
@@ -149,7 +130,24 @@ module _ {E : Type 0} (options : Options) (worst : Severity) (result : Result (U
   -- the action was performed
   pub performed : (first mid : Option (List Event)) (read : Layers) (before : Severity)
       (last : Option (List Event)) (old new : Option (List ℕ)) → OnlyReads first mid → status_of before ≡ DONE
+      → ((rows : RowsOptions) → ¬ (options.rows ≡ Some rows))
       → Performs options (entries_for options read) worst result options.action before mid last old new
       → IsWholeRun options worst result first last old new
-  performed first mid read before last old new reads none performs =
-      inr (read, mid, before, reads, none, performs)
+  performed first mid read before last old new reads none other performs =
+      inr (read, mid, before, reads, none, rw (no_rows options.rows other) performs)
+
+  -- the template was expanded for each row
+  pub expanded_rows : (first mid : Option (List Event)) (read : Layers) (before : Severity)
+      (last : Option (List Event)) (old new : Option (List ℕ)) → OnlyReads first mid → status_of before ≡ DONE
+      → (rows : RowsOptions) → options.rows ≡ Some rows
+      → IsRowsRun result options rows (look_for options read) worst before mid last old new
+      → IsWholeRun options worst result first last old new
+  expanded_rows first mid read before last old new reads none rows is run =
+      inr (
+        read,
+        mid,
+        before,
+        reads,
+        none,
+        subst (λ asked. Acts asked options read worst result before mid last old new) (sym is) run,
+      )

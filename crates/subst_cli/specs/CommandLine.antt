@@ -1,8 +1,9 @@
 -- The command line: its options, and what `clap` finds in the arguments.
-use Rattle.std.specs.Prelude.{◌≡◌, ◌≤◌, ◌&&◌, ℕ, Bool, true, false, List, [], ◌∷◌, ◌++◌, codes, length, map, Option, Some, None, unwrap_or, IfSome, String, string_bytes}
+use Rattle.std.specs.Prelude.{◌≡◌, ◌≤◌, ◌&&◌, ℕ, Bool, true, false, List, [], ◌∷◌, ◌++◌, codes, if◌then◌else◌, length, map, nat_eq, Option, Some, None, unwrap_or, IfSome, String, string_bytes}
 use Rattle.std.specs.Borrow.{Bor}
 use Rattle.std.specs.Global.{Global}
-use Rattle.std.specs.List.{All, list_any}
+use Rattle.std.specs.List.{All, ends_with, list_any}
+use Rattle.std.specs.Option.{option_map_or}
 use Rattle.std.specs.Str.{bytes_eq}
 use Rattle.clap.specs.Walk.{Row, Rule, Text, all_of, first_of, is_empty, one_of}
 use Rattle.clap.specs.Simple.{App, matches_of, new_rule, new_shape}
@@ -16,6 +17,9 @@ use Rattle.subst_cli.specs.declared.options.Escape.{Escape}
 use Rattle.subst_cli.specs.declared.options.Escape.TheVariants.{Json, Nothing, Sh}
 use Rattle.subst_cli.specs.declared.options.LineEnd.{LineEnd}
 use Rattle.subst_cli.specs.declared.options.LineEnd.TheVariants.{Kept, Removed}
+use Rattle.subst_rows.specs.declared.rows.RowsFormat.{RowsFormat}
+use Rattle.subst_rows.specs.declared.rows.RowsFormat.TheVariants.{Csv, JsonLines, Tsv}
+use Rattle.subst_cli.specs.declared.options.RowsOptions.{RowsOptions}
 use Rattle.subst_cli.specs.declared.options.table.Row.{Row as TableRow}
 use Rattle.subst_cli.specs.declared.options.table.Uses.{Uses}
 use Rattle.subst_cli.specs.declared.options.table.Uses.TheVariants as uses
@@ -95,6 +99,14 @@ options =
     ∷ option (codes "defaults") None Many []
     ∷ option (codes "no-empty") None Flag []
     ∷ option (codes "escape") None Once []
+    ∷ option (codes "rows") None Once
+    (codes "escape" ∷ codes "format" ∷ codes "json" ∷ codes "toml" ∷ codes "yaml" ∷ codes "auto"
+    ∷ codes "only" ∷ codes "envsubst" ∷ codes "known" ∷ codes "shell" ∷ codes "compose" ∷ codes "strict"
+    ∷ codes "optional" ∷ codes "output-folder" ∷ codes "strip" ∷ codes "in-place" ∷ codes "names" ∷ [])
+    ∷ option (codes "rows-format") None Once []
+    ∷ option (codes "separator") None Once []
+    ∷ option (codes "nested") None Once []
+    ∷ option (codes "keep-going") None Flag []
     ∷ option (codes "format") None Once
     (codes "json" ∷ codes "toml" ∷ codes "yaml" ∷ codes "bytes" ∷ codes "auto" ∷ [])
     ∷ option (codes "json") None Flag
@@ -209,6 +221,54 @@ abbrev pub escape_name : Escape → Option Text
 escape_name Nothing = None
 escape_name Json = Some (codes "json")
 escape_name Sh = Some (codes "sh")
+
+-- the format of rows that has this name, or none if no format has it
+abbrev pub rows_format_named : Text → Option RowsFormat
+rows_format_named name =
+    if bytes_eq name (codes "csv") then Some Csv
+    else if bytes_eq name (codes "tsv") then Some Tsv
+    else if bytes_eq name (codes "jsonl") then Some JsonLines
+    else None
+
+-- the format of rows by a path's ending, or none if no format has the ending
+abbrev pub rows_format_by_ending : Text → Option RowsFormat
+rows_format_by_ending path =
+    if ends_with nat_eq path (codes ".csv") then Some Csv
+    else if ends_with nat_eq path (codes ".tsv") then Some Tsv
+    else if ends_with nat_eq path (codes ".jsonl") then Some JsonLines
+    else None
+
+-- the format of the rows in a file: the one that `--rows-format` names if it is given, else the one by the
+-- file's ending
+abbrev pub rows_format : List Row → Text → Option RowsFormat
+rows_format rows file =
+    option_map_or rows_format_named (first_of (codes "rows-format") rows) (rows_format_by_ending file)
+
+-- the value of `--nested` by which arrays and objects have values
+abbrev pub nested_name : Bool → Option Text
+nested_name false = None
+nested_name true = Some (codes "json")
+
+-- the options of rows are those of the arguments
+abbrev pub HasRows : List Row → RowsOptions → Type 0
+HasRows rows options = (first_of (codes "rows") rows ≡ Some options.file.now)
+    × (rows_format rows options.file.now ≡ Some options.format)
+    × (options.separator.now ≡ unwrap_or (first_of (codes "separator") rows) [])
+    × IsFlag rows (codes "keep-going") options.keeps_going
+    × (first_of (codes "nested") rows ≡ nested_name options.nested)
+
+-- no option that needs `--rows` is given
+abbrev pub NeedsNoRows : List Row → Type 0
+NeedsNoRows rows = (first_of (codes "rows-format") rows ≡ None)
+    × (first_of (codes "separator") rows ≡ None)
+    × (first_of (codes "nested") rows ≡ None)
+    × IsFlag rows (codes "keep-going") false
+
+-- there are options of rows exactly if `--rows` is given, and they are those of the arguments; without
+-- `--rows`, no option that needs it is given
+abbrev pub AreRows : List Row → Option RowsOptions → Type 0
+AreRows rows None = (first_of (codes "rows") rows ≡ None) × NeedsNoRows rows
+AreRows rows (Some options) = HasRows rows options
 
 -- an option that may be given once has at most one value
 abbrev pub IsOnce : List Row → CommandOption → Type 0

@@ -1,5 +1,6 @@
 -- The calls of a run to files, and the calls for one file.
-use Rattle.std.specs.Prelude.{◌≡◌, ◌⊎◌, ◌++◌, ◌∷◌, ℕ, List, [], Option, Some, IfSome}
+use Rattle.std.specs.List.{All}
+use Rattle.std.specs.Prelude.{⊤, ◌≡◌, ◌⊎◌, ◌++◌, ◌∷◌, ℕ, List, [], Option, Some, IfSome}
 use Rattle.subst_cli.specs.declared.files.AtPath.{AtPath}
 use Rattle.subst_filter_lib.specs.declared.status.TheConstants.{DONE, REFUSED, DEVICE_FAILED, OUT_OF_MEMORY}
 
@@ -16,6 +17,16 @@ pub data Event : Type 0 where
 -- the calls so far are `old` before `calls`, and `new` after them; nothing is required if `old` isn't known
 abbrev pub GoesOn : (old new : Option (List Event)) → (calls : List Event) → Type 0
 GoesOn old new calls = IfSome old (λ before. new ≡ Some (before ++ calls))
+
+-- the call reads a file
+abbrev pub IsRead : Event → Type 0
+IsRead (Read path bytes) = ⊤
+IsRead (Unread path) = ⊤
+IsRead _ = ⊥
+
+-- each call between these two states reads a file
+unfoldable pub OnlyReads : (old new : Option (List Event)) → Type 0
+OnlyReads old new = (calls : List Event) × All IsRead calls × GoesOn old new calls
 
 -- the file was read, or couldn't be read
 abbrev pub IsReadOrNot : (path : List ℕ) → (old new : Option (List Event)) → Type 0

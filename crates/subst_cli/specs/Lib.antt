@@ -9,6 +9,7 @@ pub mod Files
 pub mod Fill
 pub mod FormatRule
 pub mod Layers
+pub mod Letters
 pub mod Listing
 pub mod MapBack
 pub mod Mark

@@ -24,7 +24,8 @@ bytes_of source = source.bytes.items
 -- the entries of the options and of `read` that have higher precedence than .env files; those of the
 -- environment only if the options use it
 abbrev pub above_for : Options → Layers → List Entry
-above_for options read = above (entries_of_pairs options.pairs.items) (entries_of read.lines.items)
+above_for options read = above (entries_of_pairs options.pairs.items)
+    (entries_of read.lines.items ++ entries_of read.named.items)
     (if options.environment then environment_of (map vec_items read.environment.items) else [])
 
 -- the entries; if the options treat empty values as unset, only those whose value isn't empty
@@ -36,6 +37,19 @@ abbrev pub entries_for : Options → Layers → List Entry
 entries_for options read = map (escaped options.escape) (kept_for options
     (in_order (above_for options read) (entries_of read.dotenv.items)
     (entries_of read.defaults.items ++ entries_of_pairs options.defaults.items)))
+
+-- the entries that come before those of a row
+abbrev pub first_for : Options → Layers → List Entry
+first_for options read =
+    kept_for options (above (entries_of_pairs options.pairs.items) (entries_of read.named.items) [])
+
+-- the entries that come after those of a row
+abbrev pub rest_for : Options → Layers → List Entry
+rest_for options read = kept_for options
+    (in_order (above [] (entries_of read.lines.items)
+    (if options.environment then environment_of (map vec_items read.environment.items) else []))
+    (entries_of read.dotenv.items)
+    (entries_of read.defaults.items ++ entries_of_pairs options.defaults.items))
 
 -- `faults` are those of `s`, in this format; `s` are the bytes of a source that are filled in
 abbrev pub AreFaultsIn : InputFormat → Placeholders → List Entry → (s : List ℕ) → (faults : List Fault) → Type 0

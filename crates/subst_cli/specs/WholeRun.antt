@@ -1,10 +1,10 @@
 -- A run with options: it reads the variables, and then performs one action.
-use Rattle.std.specs.Prelude.{◌≡◌, ◌⊎◌, ⊤, ℕ, List, Option, OnOk, Result}
+use Rattle.std.specs.Prelude.{◌≡◌, ◌⊎◌, ℕ, List, None, OnOk, Option, Result, Some}
 use Rattle.std.specs.Io.KnownBytes.{Keeps}
-use Rattle.std.specs.List.{All}
 use Rattle.subst_cli.specs.Expanded.{IsExpandRun, IsPrinted}
-use Rattle.subst_cli.specs.Files.{Event, Read, Unread, GoesOn}
+use Rattle.subst_cli.specs.Files.{Event, OnlyReads}
 use Rattle.subst_cli.specs.Layers.{Entry}
+use Rattle.subst_cli.specs.Letters.{IsRowsRun, look_for}
 use Rattle.subst_cli.specs.Run.{entries_for}
 use Rattle.subst_cli.specs.Status.{status_of}
 use Rattle.subst_cli.specs.Written.{IsCheckRun, IsReplaceRun, IsRun, WritesInto}
@@ -12,19 +12,10 @@ use Rattle.subst_cli.specs.declared.layers.Layers.{Layers}
 use Rattle.subst_cli.specs.declared.options.Action.{Action}
 use Rattle.subst_cli.specs.declared.options.Action.TheVariants.{ListNames, Print, Replace, WriteInto, WriteTo}
 use Rattle.subst_cli.specs.declared.options.Options.{Options}
+use Rattle.subst_cli.specs.declared.options.RowsOptions.{RowsOptions}
 use Rattle.subst_cli.specs.declared.report.Severity.{Severity}
 use Rattle.subst_cli.specs.declared.templates.Template.{Template}
 use Rattle.subst_filter_lib.specs.declared.status.TheConstants.{DONE}
-
--- the call reads a file
-abbrev pub IsRead : Event → Type 0
-IsRead (Read path bytes) = ⊤
-IsRead (Unread path) = ⊤
-IsRead _ = ⊥
-
--- each call between these two states reads a file
-unfoldable pub OnlyReads : (old new : Option (List Event)) → Type 0
-OnlyReads old new = (calls : List Event) × All IsRead calls × GoesOn old new calls
 
 module _ {E : Type 0} (options : Options) (entries : List Entry) (worst : Severity)
     (result : Result (Unit {0}) E) where
@@ -60,6 +51,15 @@ module _ {E : Type 0} (options : Options) (entries : List Entry) (worst : Severi
   Performs (WriteTo path) before first last old new = ExpandsAll before first last old new
   Performs action before first last old new = Keeps old new × HandlesTemplates action first last
 
+-- the template was expanded for each row, or without rows, the action was performed
+abbrev pub Acts : {E : Type 0} → Option RowsOptions → Options → Layers → (worst : Severity)
+    → Result (Unit {0}) E → (before : Severity) → (first last : Option (List Event))
+    → (old new : Option (List ℕ)) → Type 0
+Acts None options read worst result before first last old new =
+    Performs options (entries_for options read) worst result options.action before first last old new
+Acts (Some rows) options read worst result before first last old new =
+    IsRowsRun result options rows (look_for options read) worst before first last old new
+
 -- A run with these options. The calls so far are `first` before the run, and `last` after it; all printed
 -- bytes are `old` before it, and `new` after it. Some files are read for their variables. Then the action is
 -- performed with these and all other variables, unless an error was reported or memory ran out.
@@ -69,4 +69,4 @@ IsWholeRun options worst result first last old new =
     (OnlyReads first last × Keeps old new × OnOk result (¬ (status_of worst ≡ DONE)))
     ⊎ ((read : Layers) × (mid : Option (List Event)) × (before : Severity) × OnlyReads first mid
     × (status_of before ≡ DONE)
-    × Performs options (entries_for options read) worst result options.action before mid last old new)
+    × Acts options.rows options read worst result before mid last old new)

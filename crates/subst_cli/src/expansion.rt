@@ -5,7 +5,7 @@ ghost use Rattle.subst_cli.specs.Fill.{AreOutputs, IsOutput, IsSourceOutput};
 ghost use Rattle.subst_cli.specs.Layers.{Entry as SpecEntry, ForEntries, entries_of, environment_of, is_empty};
 ghost use Rattle.subst_cli.specs.Dotenv.{FilesLeave, IsFirstRefused};
 ghost use Rattle.subst_cli.specs.FormatRule.{format_of_source};
-ghost use Rattle.subst_cli.specs.Run.{above_for, bytes_of, entries_for, kept_for, AreFaultsFor, AreRefusals, IsRefusalOf};
+ghost use Rattle.subst_cli.specs.Run.{above_for, bytes_of, entries_for, first_for, kept_for, rest_for, AreFaultsFor, AreRefusals, IsRefusalOf};
 ghost use Rattle.subst_cli.specs.Strings.{FillsFrom};
 ghost use Rattle.subst_cli.specs.declared.source.Refused.{Refused as SpecRefused};
 
@@ -83,10 +83,34 @@ pub(crate) fn all_entries(
     let environment = environment_entries(alloc, options, &read.environment)?;
     let mut defaults = read.defaults;
     defaults.append(&mut from_pairs(alloc, &options.defaults)?)?;
-    let above = above(from_pairs(alloc, &options.pairs)?, read.lines, environment)?;
+    let mut lines = read.lines;
+    let mut named = read.named;
+    lines.append(&mut named)?;
+    let above = above(from_pairs(alloc, &options.pairs)?, lines, environment)?;
     let all = in_order(above, read.dotenv, defaults)?;
     let kept = kept(all, options.no_empty);
     with_escaped_values(alloc, kept, options.escape)
+}
+
+/// Returns the variables that come before those of a row, and those that come after them, the highest
+/// precedence first. Applies `--no-empty`.
+pub(crate) fn entries_around(
+    alloc: Global,
+    options: &Options<'_>,
+    read: Layers,
+) -> Result<(Vec<Entry>, Vec<Entry>), AllocError>
+    ensures first { IfOk result
+        (λ around. entries_of around.0.items ≡ first_for options.now read) }
+    ensures rest { IfOk result (λ around. entries_of around.1.items ≡ rest_for options.now read) }
+{
+    let environment = environment_entries(alloc, options, &read.environment)?;
+    let mut defaults = read.defaults;
+    defaults.append(&mut from_pairs(alloc, &options.defaults)?)?;
+    let pairs = from_pairs(alloc, &options.pairs)?;
+    let first = above(pairs, read.named, Vec::new(alloc))?;
+    let after = above(Vec::new(alloc), read.lines, environment)?;
+    let rest = in_order(after, read.dotenv, defaults)?;
+    Ok((kept(first, options.no_empty), kept(rest, options.no_empty)))
 }
 
 /// Parses `.env` files, whose values may use variables of higher precedence. Returns the files' variables, or
@@ -110,7 +134,8 @@ pub(crate) fn dotenv_entries(
         (IsFirstRefused above (map bytes_of files.items))) }
 {
     let environment = environment_entries(alloc, options, &read.environment)?;
-    let lines = copied(alloc, &read.lines)?;
+    let mut lines = copied(alloc, &read.lines)?;
+    lines.append(&mut copied(alloc, &read.named)?)?;
     let above = above(from_pairs(alloc, &options.pairs)?, lines, environment)?;
     let kept = kept(above, options.no_empty);
     let variables = Variables::of(alloc, &kept)?;

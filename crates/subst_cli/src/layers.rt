@@ -19,6 +19,8 @@ use subst_filter_lib::values::Values;
 pub struct Layers {
     /// The variables of values files, in the order of files and lines.
     pub lines: Vec<Entry>,
+    /// The variables of `--set-file`, in the order of the arguments.
+    pub named: Vec<Entry>,
     /// The entries of the environment, `NAME=VALUE`, in order.
     pub environment: Vec<Vec<u8>>,
     /// The settings of `.env` files, in the order of files and lines.

@@ -90,7 +90,7 @@ fn write_outputs<F: Files, P: Printer>(
 
 /// Returns the path of the only file to be expanded. Returns `None` if there are several, or if it is
 /// standard input.
-fn only_template<'w>(options: &Options<'w>) -> Option<&'w str> {
+pub(crate) fn only_template<'w>(options: &Options<'w>) -> Option<&'w str> {
     match options.files.as_slice() {
         [template] if *template != STANDARD_INPUT => Some(*template),
         _ => None,

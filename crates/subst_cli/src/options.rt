@@ -1,13 +1,14 @@
 //! The options of a run, parsed from its arguments.
 
-ghost use Rattle.std.specs.Prelude.{◌≡◌, ◌<◌, ◌++◌, ◌⊎◌, List, IfErr, IfOk, None, OnOk, Some, [], codes, length, map, not, unwrap_or};
+ghost use Rattle.std.specs.Prelude.{◌≡◌, ◌<◌, ◌≤◌, ◌++◌, ◌⊎◌, List, IfErr, IfOk, IsSome, None, OnOk, Some, [], codes, is_some, length, map, not, unwrap_or};
 ghost use Rattle.std.specs.List.{All};
 ghost use Rattle.clap.specs.Walk.{texts};
 ghost use Rattle.clap.specs.Words.{app_of, args_of, first_of, found_of, kind_of, rows_of};
 ghost use Rattle.clap.specs.declared.error.kind.ErrorKind.TheVariants.{OutOfMemory};
 ghost use Rattle.subst_cli.specs.Arguments as arguments;
 ghost use Rattle.subst_cli.specs.Arguments.{borrowed_pair, files_or_input, pair_in, text_pair};
-ghost use Rattle.subst_cli.specs.CommandLine.{AreAlone, AreOnce, CommandOption, IsAction, IsFlag, IsOnce, asked_by, escape_name, exclusion_of, exclusion_of_row, exclusions, keeps_line_end, option_of, option_values, rule_of_row, subst_app, with_rules};
+ghost use Rattle.subst_cli.specs.CommandLine as command_line;
+ghost use Rattle.subst_cli.specs.CommandLine.{AreAlone, AreOnce, AreRows, CommandOption, IsAction, IsFlag, IsOnce, NeedsNoRows, asked_by, escape_name, exclusion_of, exclusion_of_row, exclusions, keeps_line_end, nested_name, option_of, option_values, rows_format, rule_of_row, subst_app, with_rules};
 
 pub use crate::document::Format;
 pub use crate::format_rule::FormatRule;
@@ -16,6 +17,7 @@ use clap::{Arg, ArgAction, ArgMatches, Command, Error};
 use std::alloc::{AllocError, Global};
 use subst::foreign::{Forms, Missing, OnlyNames};
 use subst::is_name;
+pub use subst_rows::rows::RowsFormat;
 use table::{OPTIONS, Row};
 
 mod table;
@@ -46,10 +48,11 @@ const AFTER_HELP: &str = "\
 A backslash escapes \\ $ { } and :. With --only, --envsubst, --known or --shell,
 a backslash is text.
 
-Precedence of values, the first one wins: --set, --set-file, values files, the
-environment, .env files, --default, defaults files. All unset variables of a
-file are reported. If it has another error, only that error is reported; with
---only, --envsubst, --known or --shell, all refused forms are reported.
+Precedence of values, the first one wins: --set, --set-file, the row, values
+files, the environment, .env files, --default, defaults files. All unset
+variables of a file are reported. If it has another error, only that error is
+reported; with --only, --envsubst, --known or --shell, all refused forms are
+reported.
 
 Exit status: 0 done, 1 a file or value is refused, 2 wrong arguments, 3 a file
 or device failed, 4 out of memory. See subst(1) for more.";
@@ -133,6 +136,21 @@ pub enum Action<'w> {
     ListNames,
 }
 
+/// The rows for which a template is expanded.
+#[derive(Clone, Copy)]
+pub struct RowsOptions<'w> {
+    /// The file with the rows.
+    pub file: &'w str,
+    /// The format of the file.
+    pub format: RowsFormat,
+    /// The text between the outputs of two rows.
+    pub separator: &'w str,
+    /// Whether rows that are refused are left out, and the others are written.
+    pub keeps_going: bool,
+    /// Whether the value of an array or object is its JSON text. Otherwise such a value is an error.
+    pub nested: bool,
+}
+
 /// A name and its value.
 pub type Pair = (String, String);
 
@@ -158,6 +176,8 @@ pub struct Options<'w> {
     pub defaults: Vec<Pair>,
     /// The files and directories of `--defaults`, which have the lowest precedence.
     pub defaults_files: Vec<&'w str>,
+    /// The rows for which the template is expanded, or `None` if the template is expanded once.
+    pub rows: Option<RowsOptions<'w>>,
     /// Whether empty values are treated as unset.
     pub no_empty: bool,
     /// The language that values are escaped for.
@@ -203,6 +223,10 @@ impl<'w> Options<'w> {
             ≡ map pair_in (option_values (codes "default") (asked_by arguments.entry.now))) }
         ensures defaults_files { IfOk result (λ options. texts options.defaults_files.items
             ≡ option_values (codes "defaults") (asked_by arguments.entry.now)) }
+        ensures rows { IfOk result (λ options.
+            AreRows (asked_by arguments.entry.now) options.rows) }
+        ensures one_template { IfOk result (λ options. IsSome options.rows
+            → length options.files.items ≡ 1) }
         ensures no_empty { IfOk result (λ options. IsFlag (asked_by arguments.entry.now)
             (codes "no-empty") options.no_empty) }
         ensures escape { IfOk result (λ options. first_of (codes "escape")
@@ -233,6 +257,7 @@ impl<'w> Options<'w> {
             dotenv_files: list(alloc, &matches, "dotenv")?,
             defaults: pairs_of(alloc, &matches, "default")?,
             defaults_files: list(alloc, &matches, "defaults")?,
+            rows: rows_of_template(alloc, &matches, &files)?,
             no_empty: has_flag(&matches, "no-empty"),
             escape: escape_of(alloc, &matches)?,
             formats: format_rule_of(alloc, &matches, suffix)?,
@@ -255,7 +280,7 @@ impl<'w> Options<'w> {
             && self.values_files.is_empty()
             && self.dotenv_files.is_empty()
             && self.defaults_files.is_empty();
-        in_arguments && in_files && !self.environment
+        in_arguments && in_files && self.rows.is_none() && !self.environment
     }
 
     /// Refuses an option that needs variables, unless another option sets variables or the action lists
@@ -278,6 +303,9 @@ impl<'w> Options<'w> {
         let mut readers = count_standard_input(&self.values_files)
             .saturating_add(count_standard_input(&self.dotenv_files))
             .saturating_add(count_standard_input(&self.defaults_files));
+        if let Some(rows) = self.rows {
+            readers = readers.saturating_add(usize::from(is_standard_input(rows.file)));
+        }
         for (_, file) in &self.named_files {
             readers = readers.saturating_add(usize::from(is_standard_input(file)));
         }
@@ -495,6 +523,117 @@ fn escape_of(alloc: Global, matches: &ArgMatches<'_>) -> Result<Escape, Error>
         Some("json") => Ok(Escape::Json),
         Some("sh") => Ok(Escape::Sh),
         Some(_) => Err(wrong(alloc, "--escape must be json or sh")),
+    }
+}
+
+/// Returns the rows for which a template is expanded, or `None` if there is no `--rows`. Fails if an option
+/// of rows is wrong or lacks `--rows`, or if `files` has more than one template for rows.
+fn rows_of_template<'w>(
+    alloc: Global,
+    matches: &ArgMatches<'w>,
+    files: &[&str],
+) -> Result<Option<RowsOptions<'w>>, Error>
+    ensures rows { IfOk result (λ rows. AreRows (rows_of (found_of matches.now)) rows) }
+    ensures one_template { IfOk result (λ rows. IsSome rows → length files.now ≤ 1) }
+{
+    let Some(file) = matches.get_str("rows") else {
+        check_rows_named(alloc, matches)?;
+        return Ok(None);
+    };
+    if files.len() > 1 {
+        return Err(wrong(alloc, "--rows takes one template"));
+    }
+    Ok(Some(RowsOptions {
+        file,
+        format: rows_format_of(alloc, matches, file)?,
+        separator: matches.get_str("separator").unwrap_or(""),
+        keeps_going: has_flag(matches, "keep-going"),
+        nested: is_nested(alloc, matches)?,
+    }))
+}
+
+/// Refuses an option that needs `--rows`.
+fn check_rows_named(alloc: Global, matches: &ArgMatches<'_>) -> Result<(), Error>
+    ensures { OnOk result (NeedsNoRows (rows_of (found_of matches.now))) }
+{
+    let option = if is_set(matches, "rows-format") {
+        "rows-format"
+    } else if is_set(matches, "separator") {
+        "separator"
+    } else if is_set(matches, "nested") {
+        "nested"
+    } else if has_flag(matches, "keep-going") {
+        "keep-going"
+    } else {
+        return Ok(());
+    };
+    Err(wrong(alloc, &format!(in alloc; "--{option} needs --rows")?))
+}
+
+/// Returns whether an option with a value is given.
+fn is_set(matches: &ArgMatches<'_>, id: &str) -> bool
+    ensures { result ≡ is_some (first_of id.now (rows_of (found_of matches.now))) }
+{
+    matches.get_str(id).is_some()
+}
+
+/// Returns the format of rows: the one that `--rows-format` names, or else the one for the ending of `file`.
+fn rows_format_of(alloc: Global, matches: &ArgMatches<'_>, file: &str) -> Result<RowsFormat, Error>
+    ensures { IfOk result (λ format. rows_format (rows_of (found_of matches.now)) file.now
+        ≡ Some format) }
+{
+    if let Some(name) = matches.get_str("rows-format") {
+        return match rows_format_named(name) {
+            Some(format) => Ok(format),
+            None => Err(wrong(alloc, "--rows-format must be csv, tsv or jsonl")),
+        };
+    }
+    match rows_format_by_ending(file.as_bytes()) {
+        Some(format) => Ok(format),
+        None => Err(wrong(
+            alloc,
+            "--rows needs --rows-format, since the file's ending isn't .csv, .tsv or .jsonl",
+        )),
+    }
+}
+
+/// Returns the format of rows that has this name, or `None` if no format has it.
+fn rows_format_named(name: &str) -> Option<RowsFormat>
+    ensures { result ≡ command_line.rows_format_named name.now }
+{
+    match name {
+        "csv" => Some(RowsFormat::Csv),
+        "tsv" => Some(RowsFormat::Tsv),
+        "jsonl" => Some(RowsFormat::JsonLines),
+        _ => None,
+    }
+}
+
+/// Returns the format of rows for a path's ending, or `None` if the ending is unknown. The case of letters
+/// matters.
+fn rows_format_by_ending(path: &[u8]) -> Option<RowsFormat>
+    ensures { result ≡ command_line.rows_format_by_ending path.now }
+{
+    if path.ends_with(b".csv") {
+        Some(RowsFormat::Csv)
+    } else if path.ends_with(b".tsv") {
+        Some(RowsFormat::Tsv)
+    } else if path.ends_with(b".jsonl") {
+        Some(RowsFormat::JsonLines)
+    } else {
+        None
+    }
+}
+
+/// Returns whether the value of an array or object is its JSON text.
+fn is_nested(alloc: Global, matches: &ArgMatches<'_>) -> Result<bool, Error>
+    ensures { IfOk result (λ is_nested. first_of (codes "nested") (rows_of (found_of matches.now))
+        ≡ nested_name is_nested) }
+{
+    match matches.get_str("nested") {
+        None => Ok(false),
+        Some("json") => Ok(true),
+        Some(_) => Err(wrong(alloc, "--nested must be json")),
     }
 }
 

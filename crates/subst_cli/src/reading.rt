@@ -1,9 +1,8 @@
 //! Reading files, with a report of a failure.
 
 ghost use Rattle.std.specs.Prelude.{◌≡◌, ◌⊎◌, ◌∷◌, [], IfNone, IfOk, IfSome, List, OnErr, string_bytes};
-ghost use Rattle.subst_cli.specs.Files.{GoesOn, IsReadOrNot, Read, Unread};
+ghost use Rattle.subst_cli.specs.Files.{GoesOn, IsReadOrNot, OnlyReads, Read, Unread};
 ghost use Rattle.subst_cli.specs.Status.{Raises};
-ghost use Rattle.subst_cli.specs.WholeRun.{OnlyReads};
 ghost use Rattle.subst_filter_lib.specs.declared.status.TheConstants.{DEVICE_FAILED, DONE};
 
 use crate::files::Files;
@@ -35,6 +34,7 @@ pub(crate) fn source_to_expand<F: Files>(
         × Raises report.old.worst report.new.worst DEVICE_FAILED)) }
     ensures gave_up { OnErr result
         (IsReadOrNot file.now (F.history files.old) (F.history files.new)) }
+    ensures reads { OnlyReads (F.history files.old) (F.history files.new) }
 {
     let found = source(alloc, file, files, report)?;
     match &found {
@@ -50,7 +50,7 @@ pub(crate) fn source_to_expand<F: Files>(
 /// # Errors
 ///
 /// If allocation fails.
-#[tactic(auto, using(crate::proofs::WholeRunLemmas::read_one, crate::proofs::WholeRunLemmas::unread_one))]
+#[tactic(auto, using(crate::proofs::ReadLemmas::read_one, crate::proofs::ReadLemmas::unread_one))]
 pub(crate) fn source<F: Files>(
     alloc: Global,
     file: &str,

@@ -2,14 +2,16 @@
 
 ghost use Rattle.std.specs.Prelude.{ℕ, List};
 ghost use Rattle.subst_cli.specs.Expanded.{IsPrinted};
+ghost use Rattle.subst_cli.specs.Files.{OnlyReads};
 ghost use Rattle.subst_cli.specs.Run.{entries_for};
-ghost use Rattle.subst_cli.specs.WholeRun.{HandlesTemplates, IsWholeRun, OnlyReads};
+ghost use Rattle.subst_cli.specs.WholeRun.{HandlesTemplates, IsWholeRun};
 
 use crate::entry::Entry;
 use crate::expansion::{Expander, all_entries, dotenv_entries, uses};
 use crate::files::Files;
 use crate::input::{display_name, path_in};
 use crate::layers::{Layers, Variables};
+use crate::letters::expand_rows;
 use crate::listing::Listing;
 use crate::one_output::expand_all;
 use crate::options::{Action, Options};
@@ -50,6 +52,9 @@ pub(crate) fn run_options<E: Env, F: Files, P: Printer>(
     let read = layers(alloc, env, options, variables, report)?;
     if !report.is_empty() {
         return Ok(());
+    }
+    if let Some(rows) = options.rows {
+        return expand_rows(alloc, options, rows, read, files, printer, report);
     }
     match options.action {
         Action::ListNames => list(alloc, options, files, printer, report),
@@ -94,8 +99,10 @@ fn run_per_file<F: Files>(
 /// The files that variables are read from.
 #[derive(Drop)]
 struct VariableFiles {
-    /// The values files and the files of `--set-file`.
+    /// The values files.
     values: Vec<ValuesSource>,
+    /// The files of `--set-file`.
+    named: Vec<ValuesSource>,
     /// The defaults files.
     defaults: Vec<ValuesSource>,
     /// The `.env` files.
@@ -103,7 +110,7 @@ struct VariableFiles {
 }
 
 /// Reads the files that the options take variables from. Reports files that can't be read.
-#[tactic(auto, using(crate::proofs::WholeRunLemmas::no_reads))]
+#[tactic(auto, using(crate::proofs::ReadLemmas::no_reads))]
 fn variable_files<F: Files>(
     alloc: Global,
     options: &Options<'_>,
@@ -112,21 +119,23 @@ fn variable_files<F: Files>(
 ) -> Result<VariableFiles, AllocError>
     ensures { OnlyReads (F.history files.old) (F.history files.new) }
 {
-    let mut values = values_sources(alloc, options, &options.values_files, files, report)?;
+    let values = values_sources(alloc, options, &options.values_files, files, report)?;
+    let mut named = Vec::new(alloc);
     for (name, file) in &options.named_files {
-        add_named(alloc, options, name, file, &mut values, files, report)?;
+        add_named(alloc, options, name, file, &mut named, files, report)?;
     }
     let defaults = values_sources(alloc, options, &options.defaults_files, files, report)?;
     let dotenv = sources(alloc, &options.dotenv_files, files, report)?;
     Ok(VariableFiles {
         values,
+        named,
         defaults,
         dotenv,
     })
 }
 
 /// Reads files, and reports those that can't be read.
-#[tactic(auto, using(crate::proofs::WholeRunLemmas::no_reads))]
+#[tactic(auto, using(crate::proofs::ReadLemmas::no_reads))]
 fn sources<F: Files>(
     alloc: Global,
     paths: &[&str],
@@ -154,6 +163,7 @@ fn layers<E: Env>(
 ) -> Result<Layers, AllocError> {
     let mut read = Layers {
         lines: entries(alloc, files.values, report)?,
+        named: entries(alloc, files.named, report)?,
         environment: Vec::new(alloc),
         dotenv: Vec::new(alloc),
         defaults: entries(alloc, files.defaults, report)?,
@@ -192,7 +202,7 @@ fn dotenv(
 
 /// Reads values files. For a directory, reads each file in it whose name is a variable name. Reports files
 /// that can't be read.
-#[tactic(auto, using(crate::proofs::WholeRunLemmas::no_reads))]
+#[tactic(auto, using(crate::proofs::ReadLemmas::no_reads))]
 fn values_sources<F: Files>(
     alloc: Global,
     options: &Options<'_>,
@@ -211,7 +221,7 @@ fn values_sources<F: Files>(
 
 /// Reads a values file, or each file in a directory whose name is a variable name. Appends them to `sources`,
 /// or reports why they can't be read.
-#[tactic(auto, using(crate::proofs::WholeRunLemmas::no_reads))]
+#[tactic(auto, using(crate::proofs::ReadLemmas::no_reads))]
 fn add_values<F: Files>(
     alloc: Global,
     options: &Options<'_>,
@@ -230,7 +240,7 @@ fn add_values<F: Files>(
 }
 
 /// Reads a values file and appends it to `sources`, or reports why it can't be read.
-#[tactic(auto, using(crate::proofs::WholeRunLemmas::no_reads))]
+#[tactic(auto, using(crate::proofs::ReadLemmas::no_reads))]
 fn add_lines<F: Files>(
     alloc: Global,
     path: &str,
@@ -249,7 +259,7 @@ fn add_lines<F: Files>(
 
 /// Reads each file in `directory` whose name is a variable name. Appends it to `sources` as the value of that
 /// variable, or reports why it can't be read.
-#[tactic(auto, using(crate::proofs::WholeRunLemmas::no_reads))]
+#[tactic(auto, using(crate::proofs::ReadLemmas::no_reads))]
 fn add_directory<F: Files>(
     alloc: Global,
     options: &Options<'_>,
@@ -271,7 +281,7 @@ fn add_directory<F: Files>(
 }
 
 /// Reads `file` and appends it to `sources` as the value of `name`, or reports why `file` can't be read.
-#[tactic(auto, using(crate::proofs::WholeRunLemmas::no_reads))]
+#[tactic(auto, using(crate::proofs::ReadLemmas::no_reads))]
 fn add_value<F: Files>(
     alloc: Global,
     options: &Options<'_>,
@@ -290,7 +300,7 @@ fn add_value<F: Files>(
 }
 
 /// Reads `file` and appends it to `sources` as the value of `name`, or reports why `file` can't be read.
-#[tactic(auto, using(crate::proofs::WholeRunLemmas::no_reads))]
+#[tactic(auto, using(crate::proofs::ReadLemmas::no_reads))]
 fn add_named<F: Files>(
     alloc: Global,
     options: &Options<'_>,
@@ -363,7 +373,7 @@ fn list<F: Files, P: Printer>(
 }
 
 /// Returns the listing of the variables in all files. Reports files that can't be read or are refused.
-#[tactic(auto, using(crate::proofs::WholeRunLemmas::no_reads))]
+#[tactic(auto, using(crate::proofs::ReadLemmas::no_reads))]
 fn listing<F: Files>(
     alloc: Global,
     options: &Options<'_>,

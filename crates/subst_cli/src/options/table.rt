@@ -90,7 +90,7 @@ fn with_short<'a>(arg: Arg<'a>, short: Option<char>) -> Arg<'a>
 }
 
 /// The options, in the order of the help.
-pub(super) static OPTIONS: [Row; 29] = [
+pub(super) static OPTIONS: [Row; 34] = [
     Row {
         heading: "Variables",
         long: "set",
@@ -144,7 +144,7 @@ pub(super) static OPTIONS: [Row; 29] = [
         long: "default",
         short: None,
         takes: Some(("NAME=VALUE", Uses::Many)),
-        help: "Set NAME to VALUE if no option above sets it",
+        help: "Set NAME to VALUE if no row and no option above sets it",
         conflicts: &[],
     },
     Row {
@@ -152,7 +152,7 @@ pub(super) static OPTIONS: [Row; 29] = [
         long: "defaults",
         short: None,
         takes: Some(("FILE", Uses::Many)),
-        help: "Read FILE as --values does, for names that no option above sets",
+        help: "Read FILE as --values does, for names that no row and no option above sets",
         conflicts: &[],
     },
     Row {
@@ -169,6 +169,64 @@ pub(super) static OPTIONS: [Row; 29] = [
         short: None,
         takes: Some(("json|sh", Uses::Once)),
         help: "Escape values for sh or json; in YAML, json is right only between double quotes (see --yaml)",
+        conflicts: &[],
+    },
+    Row {
+        heading: "Rows",
+        long: "rows",
+        short: None,
+        takes: Some(("FILE", Uses::Once)),
+        help: "Expand the template once for each row of FILE: .csv, .tsv or .jsonl; '-' is standard input",
+        conflicts: &[
+            "escape",
+            "format",
+            "json",
+            "toml",
+            "yaml",
+            "auto",
+            "only",
+            "envsubst",
+            "known",
+            "shell",
+            "compose",
+            "strict",
+            "optional",
+            "output-folder",
+            "strip",
+            "in-place",
+            "names",
+        ],
+    },
+    Row {
+        heading: "Rows",
+        long: "rows-format",
+        short: None,
+        takes: Some(("csv|tsv|jsonl", Uses::Once)),
+        help: "Read rows in this format, whatever the ending of FILE",
+        conflicts: &[],
+    },
+    Row {
+        heading: "Rows",
+        long: "separator",
+        short: None,
+        takes: Some(("TEXT", Uses::Once)),
+        help: "Write TEXT between the outputs of rows; nothing by default",
+        conflicts: &[],
+    },
+    Row {
+        heading: "Rows",
+        long: "nested",
+        short: None,
+        takes: Some(("json", Uses::Once)),
+        help: "Insert arrays and objects of JSON Lines as their JSON text; by default they are errors",
+        conflicts: &[],
+    },
+    Row {
+        heading: "Rows",
+        long: "keep-going",
+        short: None,
+        takes: None,
+        help: "Report and leave out rows that are refused, and write the others",
         conflicts: &[],
     },
     Row {

@@ -1,5 +1,5 @@
 -- Each turn reads at most one more file.
-use Rattle.subst_cli.proofs.WholeRunLemmas.{reads_then}
+use Rattle.subst_cli.proofs.ReadLemmas.{reads_then}
 use Rattle.subst_cli.proofs.run.add_directory.Goals as goal
 
 pub returns-in_err-add_value : goal.returns-in_err-add_value

@@ -1,5 +1,5 @@
 -- All calls so far read files.
-use Rattle.subst_cli.specs.WholeRun.{OnlyReads}
+use Rattle.subst_cli.specs.Files.{OnlyReads}
 use Rattle.subst_cli.proofs.run.add_directory.Given as goal
 
 abbrev pub invariant-loop-name : goal.invariant-loop-name

@@ -1,5 +1,5 @@
 -- All calls so far read files.
-use Rattle.subst_cli.specs.WholeRun.{OnlyReads}
+use Rattle.subst_cli.specs.Files.{OnlyReads}
 use Rattle.subst_cli.proofs.run.listing.Given as goal
 
 abbrev pub invariant-loop-file : goal.invariant-loop-file

@@ -2,7 +2,7 @@
 use Rattle.std.proofs.Common.{Ok}
 use Rattle.std.specs.declared.alloc.AllocError.{AllocError}
 use Rattle.subst_cli.proofs.RunLemmas.{no_success}
-use Rattle.subst_cli.proofs.WholeRunLemmas.{expanded, handled, is_reported, listed, none_reported, performed, stopped_early}
+use Rattle.subst_cli.proofs.WholeRunLemmas.{expanded, expanded_rows, handled, is_reported, listed, none_reported, performed, stopped_early}
 use Rattle.subst_cli.proofs.run.run_options.Goals as goal
 
 pub returns-in_err-variables : goal.returns-in_err-variables
@@ -23,19 +23,27 @@ returns-then-not-is_empty g c = record {
       (is_reported c.is_empty.result _ c.is_empty.ensures c.if-not-is_empty.true);
 }
 
+pub returns-in-Some : goal.returns-in-Some
+returns-in-Some g c = record {
+  whole = expanded_rows c.args.options.now _ c.expand_rows.result _ _ c.in_ok-read.read
+      c.layers.new.report.worst _ _ _ c.in_ok-variables.ensures
+      (none_reported c.is_empty.result _ c.is_empty.ensures c.if-not-is_empty.false)
+      c.in-Some.rows c.in-Some.is c.expand_rows.ensures.rows;
+}
+
 pub returns-in-ListNames : goal.returns-in-ListNames
 returns-in-ListNames g c = record {
   whole = performed c.args.options.now _ c.list.result _ _ c.in_ok-read.read c.layers.new.report.worst _ _ _
       c.in_ok-variables.ensures (none_reported c.is_empty.result _ c.is_empty.ensures c.if-not-is_empty.false)
-      (listed c.args.options.now _ c.list.result _ _ _ _ _ _ _ c.in-ListNames.is c.list.ensures.reads
-      c.list.ensures.printed);
+      c.in_default.not-Some (listed c.args.options.now _ c.list.result _ _ _ _ _ _ _ c.in-ListNames.is
+      c.list.ensures.reads c.list.ensures.printed);
 }
 
 pub returns-in-Print : goal.returns-in-Print
 returns-in-Print g c = record {
   whole = performed c.args.options.now _ c.expand_all.result _ _ c.in_ok-read.read c.layers.new.report.worst _ _ _
       c.in_ok-variables.ensures (none_reported c.is_empty.result _ c.is_empty.ensures c.if-not-is_empty.false)
-      (expanded c.args.options.now _ c.expand_all.result _ _ _ _ _ _ _ c.in-Print.is
+      c.in_default.not-Some (expanded c.args.options.now _ c.expand_all.result _ _ _ _ _ _ _ c.in-Print.is
       c.expand_all.ensures.handed_on);
 }
 
@@ -43,6 +51,6 @@ pub returns-in-Replace : goal.returns-in-Replace
 returns-in-Replace g c = record {
   whole = performed c.args.options.now _ c.run_per_file.result _ _ c.in_ok-read.read c.layers.new.report.worst _ _ _
       c.in_ok-variables.ensures (none_reported c.is_empty.result _ c.is_empty.ensures c.if-not-is_empty.false)
-      (handled c.args.options.now _ c.run_per_file.result _ _ _ _ _ _ c.in-Replace.is
+      c.in_default.not-Some (handled c.args.options.now _ c.run_per_file.result _ _ _ _ _ _ c.in-Replace.is
       c.run_per_file.ensures);
 }

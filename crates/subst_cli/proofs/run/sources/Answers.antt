@@ -1,5 +1,5 @@
 -- Each turn reads one more file.
-use Rattle.subst_cli.proofs.WholeRunLemmas.{reads_then}
+use Rattle.subst_cli.proofs.ReadLemmas.{reads_then}
 use Rattle.subst_cli.proofs.run.sources.Goals as goal
 
 pub returns-in_err-source : goal.returns-in_err-source

@@ -1,5 +1,5 @@
 -- Each turn reads files.
-use Rattle.subst_cli.proofs.WholeRunLemmas.{reads_then}
+use Rattle.subst_cli.proofs.ReadLemmas.{reads_then}
 use Rattle.subst_cli.proofs.run.values_sources.Goals as goal
 
 pub returns-in_err-add_values : goal.returns-in_err-add_values

@@ -1,5 +1,5 @@
 -- Each group of files is read after those before it.
-use Rattle.subst_cli.proofs.WholeRunLemmas.{reads_then}
+use Rattle.subst_cli.proofs.ReadLemmas.{reads_then}
 use Rattle.subst_cli.proofs.run.variable_files.Goals as goal
 
 pub returns-in_err-add_named : goal.returns-in_err-add_named

@@ -1,9 +1,10 @@
 -- Each option is what a function finds in the rows, which are those of the arguments.
-use Rattle.std.proofs.Common.{◌≡◌, ◌∙◌, [], ap, codes, map, subst, sym, unwrap_or}
+use Rattle.std.proofs.Common.{◌≡◌, ◌≤◌, ◌∙◌, [], ap, codes, length, map, subst, sym, unwrap_or}
 use Rattle.std.proofs.Math.Bool.{not-not}
 use Rattle.clap.specs.Walk.{first_of, texts}
+use Rattle.subst_cli.proofs.ArgumentLemmas.{one_file}
 use Rattle.subst_cli.specs.Arguments.{borrowed_pair, files_or_input, pair_in, text_pair}
-use Rattle.subst_cli.specs.CommandLine.{AreAlone, AreOnce, IsAction, IsFlag, asked_by, escape_name, keeps_line_end, option_values}
+use Rattle.subst_cli.specs.CommandLine.{AreAlone, AreOnce, AreRows, IsAction, IsFlag, asked_by, escape_name, keeps_line_end, option_values}
 use Rattle.subst_cli.proofs.options.Options.parse.Goals as goal
 
 pub returns : goal.returns
@@ -24,6 +25,12 @@ returns c =
           ≡ map pair_in (option_values (codes "default") rows)) same c.in_ok-pairs_of-2.ensures;
       defaults_files = subst (λ rows. texts c.in_ok-list-3.field-0.items ≡ option_values (codes "defaults") rows)
           same c.in_ok-list-3.ensures;
+      rows = subst (λ rows. AreRows rows c.in_ok-rows_of_template.field-0) same
+          c.in_ok-rows_of_template.ensures.rows;
+      one_template = λ some. one_file c.in_ok-or_standard_input.field-0.items c.in_ok-files.files.items
+          c.in_ok-or_standard_input.ensures.inputs
+          (subst (λ files. length files ≤ 1) c.deref-2.ensures.value
+          (c.in_ok-rows_of_template.ensures.one_template some));
       no_empty = subst (λ rows. IsFlag rows (codes "no-empty") c.has_flag-2.result) same c.has_flag-2.ensures;
       escape = subst (λ rows. first_of (codes "escape") rows ≡ escape_name c.in_ok-escape_of.field-0) same
           c.in_ok-escape_of.ensures;
