@@ -1,6 +1,6 @@
 #!/usr/bin/env python3
 """completions.py bash|zsh|fish   Prints a shell's completion of the arguments of subst, from the options in its source,
-crates/subst_cli/src/options/table.rt. The options of its library, -h and -V, are added here.
+crates/subst_options/src/table.rt. The options of its library, -h and -V, are added here.
 """
 import re
 import sys
@@ -9,7 +9,7 @@ from typing import NamedTuple
 sys.dont_write_bytecode = True
 from building import CRATES
 
-SOURCE = CRATES / 'subst_cli/src/options/table.rt'
+SOURCE = CRATES / 'subst_options/src/table.rt'
 # A row of that table, and the value in it.
 ROW = re.compile(r'^    Row \{\n(.*?)^    \},', re.MULTILINE | re.DOTALL)
 TAKES = re.compile(r'takes: Some\(\("([^"]+)", Uses::(\w+)\)\)')

@@ -44,13 +44,12 @@ HIDDEN = {
     'subst_rows/': '`subst` has no function of it',
     'subst_rows/src/letter.rt': '',
     'subst_cli/': 'most of its modules are private',
-    'subst_cli/src/expansion.rt': '',
-    'subst_cli/src/fault.rt': '',
-    'subst_cli/src/format_rule.rt': '',
-    'subst_cli/src/layers.rt': '',
-    'subst_cli/src/options.rt': '',
+    'subst_cli/src/entries.rt': '',
     'subst_cli/src/process.rt': '',
-    'subst_cli/src/values_file.rt': '',
+    'subst_expander/': 'it is there for `subst_cli`',
+    'subst_expander/src/expansion.rt': '',
+    'subst_expander/src/values_file.rt': '',
+    'subst_options/src/table.rt': 'it is there for `subst_cli`',
 }
 # The beginning of an item: its margin, its visibility, its kind, and its name.
 BEGIN = re.compile(r'(|    )(pub(?:\([^)]*\))? )?(?:unsafe |extern "C" )*(fn|trait|impl|type|ghost(?! use))\b ?(\w*)')

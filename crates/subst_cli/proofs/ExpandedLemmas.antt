@@ -9,17 +9,17 @@ use Rattle.subst_cli.proofs.RunLemmas.{no_success}
 use Rattle.subst_cli.proofs.WrittenLemmas.{calls_then, no_calls, status_then}
 use Rattle.subst_cli.specs.Expanded.{AreOutputsWritten, AreSourcesRead, IsExpandRun, Reads, then_lost, then_read, then_unread}
 use Rattle.subst_cli.specs.Files.{Event, GoesOn, IsReadOrNot, Read, Unread}
-use Rattle.subst_cli.specs.Fill.{AreOutputs}
-use Rattle.subst_cli.specs.Layers.{Entry}
-use Rattle.subst_cli.specs.Run.{AreRefusals}
+use Rattle.subst_expander.specs.Fill.{AreOutputs}
+use Rattle.subst_expander.specs.Layers.{Entry}
+use Rattle.subst_expander.specs.Refusals.{AreRefusals}
 use Rattle.subst_cli.specs.Status.{IsStatus, Raises, status_of}
 use Rattle.std.specs.declared.alloc.AllocError.{AllocError}
-use Rattle.subst_cli.specs.declared.format_rule.FormatRule.{FormatRule}
-use Rattle.subst_cli.specs.declared.options.Action.{Action}
-use Rattle.subst_cli.specs.declared.options.Placeholders.{Placeholders}
+use Rattle.subst_expander.specs.declared.format_rule.FormatRule.{FormatRule}
+use Rattle.subst_options.specs.declared.Action.{Action}
+use Rattle.subst_expander.specs.declared.kinds.Placeholders.{Placeholders}
 use Rattle.subst_cli.specs.declared.report.Severity.{Severity}
-use Rattle.subst_cli.specs.declared.source.Refused.{Refused}
-use Rattle.subst_cli.specs.declared.source.Source.{Source}
+use Rattle.subst_expander.specs.declared.source.Refused.{Refused}
+use Rattle.subst_expander.specs.declared.source.Source.{Source}
 use Rattle.subst_filter_lib.specs.declared.status.TheConstants.{DONE, REFUSED, DEVICE_FAILED, OUT_OF_MEMORY}
 
 module _ (start : ℕ) (first : Option (List Event)) where

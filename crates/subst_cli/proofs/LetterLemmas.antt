@@ -14,16 +14,16 @@ use Rattle.std.specs.Prelude.{◌⊎◌, ◌≤◌, ◌^◌, IfSome, IsErr, IsSo
 use Rattle.subst_cli.proofs.RunLemmas.{no_success}
 use Rattle.subst_cli.proofs.WrittenLemmas.{calls_then, no_calls}
 use Rattle.subst_cli.specs.Files.{Event, GoesOn, Read, Unread}
-use Rattle.subst_cli.specs.Layers.{entries_of, look_up_in}
+use Rattle.subst_expander.specs.Layers.{entries_of, look_up_in}
 use Rattle.subst_cli.specs.Letters.{AllHandedOn, FailsToRead, HeadRefused, IsExpanded, IsLetter, IsLetterWritten, IsSheetRun, LetterRefused, RowRefused, SomePrinted, TemplateRefused, TextRefused, look_for}
 use Rattle.subst_cli.specs.Run.{first_for, rest_for}
 use Rattle.subst_cli.specs.Status.{Raises, worse}
-use Rattle.subst_cli.specs.declared.entry.Entry.{Entry as CodeEntry}
-use Rattle.subst_cli.specs.declared.layers.Layers.{Layers}
-use Rattle.subst_cli.specs.declared.options.Action.{Action}
-use Rattle.subst_cli.specs.declared.options.Action.TheVariants.{Check, ListNames, Print, Replace, WriteInto, WriteTo}
-use Rattle.subst_cli.specs.declared.options.Options.{Options}
-use Rattle.subst_cli.specs.declared.options.RowsOptions.{RowsOptions}
+use Rattle.subst_expander.specs.declared.entry.Entry.{Entry as CodeEntry}
+use Rattle.subst_expander.specs.declared.layers.Layers.{Layers}
+use Rattle.subst_options.specs.declared.Action.{Action}
+use Rattle.subst_options.specs.declared.Action.TheVariants.{Check, ListNames, Print, Replace, WriteInto, WriteTo}
+use Rattle.subst_options.specs.declared.Options.{Options}
+use Rattle.subst_options.specs.declared.RowsOptions.{RowsOptions}
 use Rattle.subst_cli.specs.declared.report.Severity.{Severity}
 use Rattle.subst_cli.specs.declared.report.Severity.TheVariants.{Exhaustion, Failure, Misuse, Nothing, Refusal}
 use Rattle.subst_error.specs.Fault.{Fault}

@@ -13,14 +13,14 @@ use Rattle.std.specs.Str.{bytes_eq}
 use Rattle.std.specs.declared.alloc.AllocError.{AllocError}
 use Rattle.subst_cli.proofs.WrittenLemmas.{calls_then, status_then}
 use Rattle.subst_cli.specs.Files.{Event, FileResult, GoesOn, LookedAt, calls_of, status_of_result}
-use Rattle.subst_cli.specs.Layers.{Entry}
+use Rattle.subst_expander.specs.Layers.{Entry}
 use Rattle.subst_cli.specs.Status.{IsStatus}
 use Rattle.subst_cli.specs.Templates.{target_in}
 use Rattle.subst_cli.specs.Written.{Checks, IsChecked, IsDone, IsDoneOnce, IsReplacedOnce, IsRun, IsWrittenOnce, Replaces, WritesInto, has_place, is_taken, then_checked, then_replaced, then_written, with_place}
 use Rattle.subst_cli.specs.declared.files.AtPath.{AtPath}
 use Rattle.subst_cli.specs.declared.files.AtPath.TheVariants.{Regular, Other, Unknown}
-use Rattle.subst_cli.specs.declared.format_rule.FormatRule.{FormatRule}
-use Rattle.subst_cli.specs.declared.options.Placeholders.{Placeholders}
+use Rattle.subst_expander.specs.declared.format_rule.FormatRule.{FormatRule}
+use Rattle.subst_expander.specs.declared.kinds.Placeholders.{Placeholders}
 use Rattle.subst_cli.specs.declared.report.Severity.{Severity}
 use Rattle.subst_cli.specs.declared.templates.Template.{Template}
 

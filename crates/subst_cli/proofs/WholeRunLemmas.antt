@@ -8,21 +8,21 @@ use Rattle.subst_cli.proofs.RunLemmas.{no_success}
 use Rattle.subst_cli.proofs.WrittenLemmas.{no_calls}
 use Rattle.subst_cli.specs.Expanded.{IsPrinted}
 use Rattle.subst_cli.specs.Run.{entries_for}
-use Rattle.subst_cli.specs.declared.layers.Layers.{Layers}
+use Rattle.subst_expander.specs.declared.layers.Layers.{Layers}
 use Rattle.subst_filter_lib.specs.declared.status.TheConstants.{DONE}
 use Rattle.subst_cli.specs.Files.{Event, OnlyReads}
-use Rattle.subst_cli.specs.Layers.{AreVariablesOf, Entry, ForEntries, entries_of}
+use Rattle.subst_expander.specs.Layers.{AreVariablesOf, Entry, ForEntries, entries_of}
 use Rattle.subst_cli.specs.Letters.{IsRowsRun, look_for}
 use Rattle.subst_cli.specs.Status.{status_of}
 use Rattle.subst_cli.specs.WholeRun.{Acts, ExpandsAll, HandlesTemplates, IsWholeRun, Performs}
 use Rattle.subst_cli.specs.Written.{IsCheckRun, IsReplaceRun, IsRun, WritesInto, none_checked, none_replaced, none_written}
-use Rattle.subst_cli.specs.declared.entry.Entry.{Entry as CodeEntry}
-use Rattle.subst_cli.specs.declared.expansion.Expander.{Expander}
-use Rattle.subst_cli.specs.declared.layers.Variables.{Variables}
-use Rattle.subst_cli.specs.declared.options.Action.{Action}
-use Rattle.subst_cli.specs.declared.options.Action.TheVariants.{Check, ListNames, Print, Replace, WriteInto, WriteTo}
-use Rattle.subst_cli.specs.declared.options.Options.{Options}
-use Rattle.subst_cli.specs.declared.options.RowsOptions.{RowsOptions}
+use Rattle.subst_expander.specs.declared.entry.Entry.{Entry as CodeEntry}
+use Rattle.subst_expander.specs.declared.expansion.Expander.{Expander}
+use Rattle.subst_expander.specs.declared.layers.Variables.{Variables}
+use Rattle.subst_options.specs.declared.Action.{Action}
+use Rattle.subst_options.specs.declared.Action.TheVariants.{Check, ListNames, Print, Replace, WriteInto, WriteTo}
+use Rattle.subst_options.specs.declared.Options.{Options}
+use Rattle.subst_options.specs.declared.RowsOptions.{RowsOptions}
 use Rattle.subst_cli.specs.declared.report.Severity.{Severity}
 use Rattle.subst_cli.specs.declared.templates.Template.{Template}
 

@@ -3,12 +3,12 @@ use Rattle.std.proofs.Common.{◌≡◌, ◌≤◌, ◌∙◌, ◌++◌, ◌∷�
 use Rattle.std.proofs.lemmas.Grind.{common_steps}
 use Rattle.std.specs.Prelude.{◌⊎◌, IfNone, IfSome, OnSome, max}
 use Rattle.subst_cli.specs.Files.{Event, FileResult, GoesOn, IsFileWritten, IsReadOrNot, Kept, LookedAt, NoMemory, NotCommitted, NotRead, NotStaged, Read, Refused, Staged, Uncommitted, Unstaged, Written, committed, uncommitted, unstaged}
-use Rattle.subst_cli.specs.Layers.{Entry}
+use Rattle.subst_expander.specs.Layers.{Entry}
 use Rattle.subst_cli.specs.Status.{IsStatus, Raises}
 use Rattle.subst_cli.specs.Written.{HasNoOutput, IsChecked, IsDone, IsDoneOnce, IsOutputOf, IsReplaced, IsReplacedOnce, IsUnread, IsWriting, IsWritten, IsWrittenOnce, Refuses}
 use Rattle.subst_cli.specs.declared.files.AtPath.{AtPath}
-use Rattle.subst_cli.specs.declared.format_rule.FormatRule.{FormatRule}
-use Rattle.subst_cli.specs.declared.options.Placeholders.{Placeholders}
+use Rattle.subst_expander.specs.declared.format_rule.FormatRule.{FormatRule}
+use Rattle.subst_expander.specs.declared.kinds.Placeholders.{Placeholders}
 use Rattle.subst_cli.specs.declared.per_file.Output.{Output}
 use Rattle.subst_cli.specs.declared.report.Severity.{Severity}
 use Rattle.subst_cli.specs.declared.report.Severity.TheVariants.{Exhaustion}

@@ -3,17 +3,17 @@ use denote.Ref.{Bor}
 use Rattle.std.specs.Prelude.{◌≡◌, ◌⊎◌, ◌++◌, ◌∷◌, ℕ, List, [], Option, IfOk, OnOk, Vec, Result, max, string_bytes}
 use Rattle.std.specs.Io.KnownBytes.{Appends, Keeps}
 use Rattle.subst_cli.specs.Files.{Event, GoesOn, IsFileWritten, Read, Unread}
-use Rattle.subst_cli.specs.Fill.{AreOutputs}
-use Rattle.subst_cli.specs.Layers.{Entry}
-use Rattle.subst_cli.specs.Run.{AreRefusals}
+use Rattle.subst_expander.specs.Fill.{AreOutputs}
+use Rattle.subst_expander.specs.Layers.{Entry}
+use Rattle.subst_expander.specs.Refusals.{AreRefusals}
 use Rattle.subst_cli.specs.Status.{IsStatus, status_of}
-use Rattle.subst_cli.specs.declared.format_rule.FormatRule.{FormatRule}
-use Rattle.subst_cli.specs.declared.options.Action.{Action}
-use Rattle.subst_cli.specs.declared.options.Action.TheVariants.{WriteTo}
-use Rattle.subst_cli.specs.declared.options.Placeholders.{Placeholders}
+use Rattle.subst_expander.specs.declared.format_rule.FormatRule.{FormatRule}
+use Rattle.subst_options.specs.declared.Action.{Action}
+use Rattle.subst_options.specs.declared.Action.TheVariants.{WriteTo}
+use Rattle.subst_expander.specs.declared.kinds.Placeholders.{Placeholders}
 use Rattle.subst_cli.specs.declared.report.Severity.{Severity}
-use Rattle.subst_cli.specs.declared.source.Refused.{Refused}
-use Rattle.subst_cli.specs.declared.source.Source.{Source}
+use Rattle.subst_expander.specs.declared.source.Refused.{Refused}
+use Rattle.subst_expander.specs.declared.source.Source.{Source}
 use Rattle.subst_filter_lib.specs.Device.{AppendsPrefix}
 use Rattle.subst_filter_lib.specs.declared.status.TheConstants.{DONE, REFUSED, DEVICE_FAILED, OUT_OF_MEMORY}
 

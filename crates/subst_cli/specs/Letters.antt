@@ -6,14 +6,14 @@ use Rattle.std.specs.List.{Any}
 use Rattle.subst.specs.Language.LookUp.{LookUp}
 use Rattle.subst_cli.specs.Expanded.{IsHandedOn}
 use Rattle.subst_cli.specs.Files.{Event, GoesOn, OnlyReads, Read, Unread}
-use Rattle.subst_cli.specs.Layers.{look_up_in}
+use Rattle.subst_expander.specs.Layers.{look_up_in}
 use Rattle.subst_cli.specs.Run.{first_for, rest_for}
 use Rattle.subst_cli.specs.Status.{Raises}
-use Rattle.subst_cli.specs.declared.layers.Layers.{Layers}
-use Rattle.subst_cli.specs.declared.options.Action.{Action}
-use Rattle.subst_cli.specs.declared.options.Action.TheVariants.{Check}
-use Rattle.subst_cli.specs.declared.options.Options.{Options}
-use Rattle.subst_cli.specs.declared.options.RowsOptions.{RowsOptions}
+use Rattle.subst_expander.specs.declared.layers.Layers.{Layers}
+use Rattle.subst_options.specs.declared.Action.{Action}
+use Rattle.subst_options.specs.declared.Action.TheVariants.{Check}
+use Rattle.subst_options.specs.declared.Options.{Options}
+use Rattle.subst_options.specs.declared.RowsOptions.{RowsOptions}
 use Rattle.subst_cli.specs.declared.report.Severity.{Severity}
 use Rattle.subst_error.specs.Fault.{Fault}
 use Rattle.subst_filter_lib.specs.Device.{AppendsPrefix}

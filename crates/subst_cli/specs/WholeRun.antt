@@ -3,16 +3,16 @@ use Rattle.std.specs.Prelude.{◌≡◌, ◌⊎◌, ℕ, List, None, OnOk, Optio
 use Rattle.std.specs.Io.KnownBytes.{Keeps}
 use Rattle.subst_cli.specs.Expanded.{IsExpandRun, IsPrinted}
 use Rattle.subst_cli.specs.Files.{Event, OnlyReads}
-use Rattle.subst_cli.specs.Layers.{Entry}
+use Rattle.subst_expander.specs.Layers.{Entry}
 use Rattle.subst_cli.specs.Letters.{IsRowsRun, look_for}
 use Rattle.subst_cli.specs.Run.{entries_for}
 use Rattle.subst_cli.specs.Status.{status_of}
 use Rattle.subst_cli.specs.Written.{IsCheckRun, IsReplaceRun, IsRun, WritesInto}
-use Rattle.subst_cli.specs.declared.layers.Layers.{Layers}
-use Rattle.subst_cli.specs.declared.options.Action.{Action}
-use Rattle.subst_cli.specs.declared.options.Action.TheVariants.{ListNames, Print, Replace, WriteInto, WriteTo}
-use Rattle.subst_cli.specs.declared.options.Options.{Options}
-use Rattle.subst_cli.specs.declared.options.RowsOptions.{RowsOptions}
+use Rattle.subst_expander.specs.declared.layers.Layers.{Layers}
+use Rattle.subst_options.specs.declared.Action.{Action}
+use Rattle.subst_options.specs.declared.Action.TheVariants.{ListNames, Print, Replace, WriteInto, WriteTo}
+use Rattle.subst_options.specs.declared.Options.{Options}
+use Rattle.subst_options.specs.declared.RowsOptions.{RowsOptions}
 use Rattle.subst_cli.specs.declared.report.Severity.{Severity}
 use Rattle.subst_cli.specs.declared.templates.Template.{Template}
 use Rattle.subst_filter_lib.specs.declared.status.TheConstants.{DONE}

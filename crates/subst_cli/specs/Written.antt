@@ -4,17 +4,17 @@ use Rattle.std.specs.Bool.{MatchBool}
 use Rattle.std.specs.List.{list_any}
 use Rattle.std.specs.Str.{bytes_eq}
 use Rattle.subst_cli.specs.Files.{Event, LookedAt, Read, Unread, GoesOn, FileResult, DoneBefore, Irregular, Taken, NotRead, Refused, Kept, Written, NotStaged, NotCommitted, NoMemory, IsFileWritten, calls_of, status_of_result}
-use Rattle.subst_cli.specs.Fill.{IsOutput}
-use Rattle.subst_cli.specs.FormatRule.{format_of_path}
-use Rattle.subst_cli.specs.Layers.{Entry}
-use Rattle.subst_cli.specs.Run.{AreFaultsFor}
+use Rattle.subst_expander.specs.Fill.{IsOutput}
+use Rattle.subst_expander.specs.FormatRule.{format_of_path}
+use Rattle.subst_expander.specs.Layers.{Entry}
+use Rattle.subst_expander.specs.Refusals.{AreFaultsFor}
 use Rattle.subst_cli.specs.Status.{IsStatus, Raises, status_of}
 use Rattle.subst_cli.specs.Templates.{target_in}
-use Rattle.subst_cli.specs.declared.fault.Fault.{Fault}
+use Rattle.subst_expander.specs.declared.fault.Fault.{Fault}
 use Rattle.subst_cli.specs.declared.files.AtPath.{AtPath}
 use Rattle.subst_cli.specs.declared.files.AtPath.TheVariants.{Regular, Other, Unknown}
-use Rattle.subst_cli.specs.declared.format_rule.FormatRule.{FormatRule}
-use Rattle.subst_cli.specs.declared.options.Placeholders.{Placeholders}
+use Rattle.subst_expander.specs.declared.format_rule.FormatRule.{FormatRule}
+use Rattle.subst_expander.specs.declared.kinds.Placeholders.{Placeholders}
 use Rattle.subst_cli.specs.declared.per_file.Output.{Output}
 use Rattle.subst_cli.specs.declared.report.Severity.{Severity}
 use Rattle.subst_cli.specs.declared.templates.Template.{Template}

@@ -4,13 +4,13 @@ ghost use Rattle.std.specs.Prelude.{None};
 
 use crate::files::{AtPath, Files, Staged};
 use crate::input::{self, display_name};
-use crate::options::Action;
 use crate::output;
 use crate::report::Report;
 use std::alloc::AllocError;
 use std::io::ErrorKind;
 use std::path::Path;
 use std::{fs, io};
+use subst_options::Action;
 
 /// The way in which files are written.
 #[derive(Clone, Copy, PartialEq, Eq)]

@@ -3,12 +3,12 @@
 ghost use Rattle.std.specs.Prelude.{◌≡◌, IfOk, string_bytes};
 ghost use Rattle.subst_cli.specs.Templates as templates;
 
-use crate::options::STANDARD_INPUT;
-use crate::terminal::printable;
 use std::alloc::{AllocError, Global};
 use std::io::Read;
 use std::path::Path;
 use std::{fs, io};
+use subst_expander::terminal::printable;
+use subst_options::STANDARD_INPUT;
 
 /// Reads a file to its end, or standard input if the path is `-`.
 ///

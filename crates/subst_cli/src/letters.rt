@@ -3,7 +3,7 @@
 ghost use Rattle.std.specs.Prelude.{◌≡◌, ◌⊎◌, ◌∷◌, ◌<◌, [], IfNone, IfOk, IfSome, IsSome, IsUtf8, List, OnOk, false, option_map, true};
 ghost use Rattle.std.specs.List.{Any};
 ghost use Rattle.subst_cli.specs.Files.{Event, GoesOn, OnlyReads, Read};
-ghost use Rattle.subst_cli.specs.Layers.{entries_of, look_up_in};
+ghost use Rattle.subst_expander.specs.Layers.{entries_of, look_up_in};
 ghost use Rattle.subst_cli.specs.Letters as letters;
 ghost use Rattle.subst_cli.specs.Letters.{HeadRefused, IsExpanded, IsLetter, IsRowsRun, IsSheetRun, FailsToRead, IsLetterWritten, TemplateRefused, TextRefused, look_for};
 ghost use Rattle.subst_cli.specs.Status.{Raises};
@@ -17,24 +17,26 @@ ghost use Rattle.subst_rows.specs.Letter.{AreLetterValues};
 ghost use Rattle.subst_rows.specs.Row.{IsLookOf, look_in_row};
 ghost use Rattle.subst_rows.specs.declared.error.RowsError.TheVariants as errors;
 
-use crate::entry::Entry;
-use crate::expansion::{entries_around, uses};
+use crate::entries::entries_around;
 use crate::files::Files;
-use crate::hints;
-use crate::layers::Layers;
 use crate::one_output::only_template;
-use crate::options::{Action, InputFormat, Options, RowsOptions, STANDARD_INPUT};
 use crate::printer::Printer;
 use crate::reading::{source, source_to_expand};
 use crate::report::Report;
 use crate::row_messages::{head_hint, message_of_refusal, message_of_rows, repeated_name};
-use crate::source::{Excerpts, Source, messages};
-use crate::text::text_of;
 use crate::writing::write;
 use std::alloc::{AllocError, Global};
 use subst::error::ParseError;
+use subst_expander::entry::Entry;
+use subst_expander::expansion::uses;
+use subst_expander::hints;
+use subst_expander::kinds::InputFormat;
+use subst_expander::layers::Layers;
+use subst_expander::source::{Excerpts, Source, messages};
+use subst_expander::text::text_of;
 use subst_indexed::IndexedTemplate;
 use subst_indexed::parse::IndexError;
+use subst_options::{Action, Options, RowsOptions, STANDARD_INPUT};
 use subst_rows::columns::{first_repeated, names_of};
 use subst_rows::error::RowsError;
 use subst_rows::letter::{Layout, Letter, RefusedRows, WriteError};
@@ -190,10 +192,15 @@ impl Sheet<'_, '_> {
         ensures { OnOk result (Raises report.old.worst report.new.worst REFUSED) }
     {
         let Source { name, bytes, .. } = self.template;
-        match uses(self.alloc, self.template, self.options)? {
+        let Options {
+            formats,
+            placeholders,
+            ..
+        } = self.options;
+        match uses(self.alloc, self.template, *formats, placeholders)? {
             Err(faults) => {
                 report.refused(&messages(self.alloc, name, bytes, &faults, Excerpts::All)?);
-                report.hint(hints::faults_hint(self.options, &faults));
+                report.hint(hints::faults_hint(false, placeholders, &faults));
             }
             Ok(_) => {
                 let why = "a template for rows has less than 4 GiB";

@@ -6,17 +6,17 @@ ghost use Rattle.subst_cli.specs.Run.{entries_for};
 ghost use Rattle.subst_cli.specs.Status.{Raises};
 ghost use Rattle.subst_filter_lib.specs.declared.status.TheConstants.{REFUSED};
 
-use crate::expansion::fill_in;
+use crate::entries::fill_in;
 use crate::files::Files;
-use crate::layers::Layers;
-use crate::options::{Action, Options, STANDARD_INPUT};
 use crate::printer::Printer;
 use crate::reading::source_to_expand;
 use crate::refusals::report_refused;
 use crate::report::Report;
-use crate::source::{Refused, Source};
 use crate::writing::{print, write};
 use std::alloc::{AllocError, Global};
+use subst_expander::layers::Layers;
+use subst_expander::source::{Refused, Source};
+use subst_options::{Action, Options, STANDARD_INPUT};
 
 /// Expands all files, and writes the outputs to a file or to standard output. Writes nothing if a file can't
 /// be read or is refused.

@@ -3,28 +3,28 @@
 ghost use Rattle.std.specs.Prelude.{◌≡◌, ◌⊎◌, ◌∷◌, [], IfErr, IfNone, IfOk, IfSome, OnOk, OnSome, string_bytes};
 ghost use Rattle.std.specs.HashSet.{contains_text};
 ghost use Rattle.subst_cli.specs.Files.{GoesOn, Read};
-ghost use Rattle.subst_cli.specs.Fill.{IsSourceOutput};
-ghost use Rattle.subst_cli.specs.FormatRule.{format_of_source};
-ghost use Rattle.subst_cli.specs.Layers.{ForEntries};
-ghost use Rattle.subst_cli.specs.Run.{AreFaultsFor};
+ghost use Rattle.subst_expander.specs.Fill.{IsSourceOutput};
+ghost use Rattle.subst_expander.specs.FormatRule.{format_of_source};
+ghost use Rattle.subst_expander.specs.Layers.{ForEntries};
+ghost use Rattle.subst_expander.specs.Refusals.{AreFaultsFor};
 ghost use Rattle.subst_cli.specs.Status.{Raises, status_of};
 ghost use Rattle.subst_cli.specs.Written.{HasNoOutput, IsChecked, IsCheckRun, IsDone, IsDoneOnce, IsOutputOf, IsReplaced, IsReplaceRun, IsRun, IsUnread, IsWriting, IsWrittenOnce, WritesInto};
 ghost use Rattle.subst_filter_lib.specs.declared.status.TheConstants.{DEVICE_FAILED, DONE, REFUSED};
 
-use crate::expansion::Expander;
 use crate::files::{AtPath, Files, Place};
-use crate::hints::unset_hints;
 use crate::input::display_name;
-use crate::options::Options;
-use crate::part::OrFaults;
 use crate::reading::source_to_expand;
 use crate::refusals::{report_defaults, report_refused};
 use crate::report::Report;
-use crate::source::{Refused, Source};
 use crate::templates::Template;
 use crate::writing::write;
 use std::alloc::{AllocError, Global};
 use std::collections::HashSet;
+use subst_expander::expansion::Expander;
+use subst_expander::hints::unset_hints;
+use subst_expander::part::OrFaults;
+use subst_expander::source::{Refused, Source};
+use subst_options::Options;
 
 /// A run that handles its files one at a time. If memory runs out for a file, this is reported, and the run
 /// continues with the next file.

@@ -4,18 +4,18 @@ ghost use Rattle.std.specs.Prelude.{◌≤◌};
 ghost use Rattle.std.specs.Process.{exit_status};
 
 use crate::disk::Disk;
-use crate::options::Options;
 use crate::output;
 use crate::printer::StandardOutput;
 use crate::report::Report;
 use crate::run::run_options;
-use crate::terminal::printable_lines;
 use clap::Error;
 use clap::error::ErrorKind;
 use std::alloc::AllocError;
 use std::process::ExitCode;
 use std::{env, io};
+use subst_expander::terminal::printable_lines;
 use subst_filter_lib::status::OUT_OF_MEMORY;
+use subst_options::Options;
 
 /// Runs the program with its arguments, its environment, its standard streams and the files that the
 /// arguments name. Returns the exit status: the highest of all events that were reported, or `DONE`.

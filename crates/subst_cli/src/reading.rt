@@ -6,12 +6,12 @@ ghost use Rattle.subst_cli.specs.Status.{Raises};
 ghost use Rattle.subst_filter_lib.specs.declared.status.TheConstants.{DEVICE_FAILED, DONE};
 
 use crate::files::Files;
-use crate::hints;
 use crate::input::display_name;
-use crate::options::Options;
 use crate::report::Report;
-use crate::source::Source;
 use std::alloc::{AllocError, Global};
+use subst_expander::hints;
+use subst_expander::source::Source;
+use subst_options::Options;
 
 /// Reads a file to be expanded, or reports why it can't be read and returns `None`. Prints a hint for a
 /// default that looks like another tool's, unless the options refuse such defaults.
@@ -39,7 +39,12 @@ pub(crate) fn source_to_expand<F: Files>(
     let found = source(alloc, file, files, report)?;
     match &found {
         Some(_) if options.refuses_defaults => {}
-        Some(source) => report.hint(hints::default_hint(alloc, options, source)?.as_deref()),
+        Some(source) => report.hint(hints::default_hint(
+            alloc,
+            options.formats,
+            &options.placeholders,
+            source,
+        )?.as_deref()),
         None => report.hint(hints::file_hint(alloc, file)?.as_deref()),
     }
     Ok(found)

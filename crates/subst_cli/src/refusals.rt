@@ -4,12 +4,12 @@ ghost use Rattle.std.specs.Prelude.{OnOk, ◌⊎◌};
 ghost use Rattle.subst_cli.specs.Status.{Raises};
 ghost use Rattle.subst_filter_lib.specs.declared.status.TheConstants.{DONE, REFUSED};
 
-use crate::hints;
-use crate::options::Options;
 use crate::report::Report;
-use crate::source::{Excerpts, Refused, Source, messages};
-use crate::text::split_source;
 use std::alloc::{AllocError, Global};
+use subst_expander::hints;
+use subst_expander::source::{Excerpts, Refused, Source, messages};
+use subst_expander::text::split_source;
+use subst_options::Options;
 
 /// Reports the faults of a refused source, and prints a hint if one applies.
 pub(crate) fn report_refused(
@@ -24,7 +24,7 @@ pub(crate) fn report_refused(
     let format = options.formats.format_of(&source.path);
     let (_, bytes) = split_source(format, &source.bytes);
     report.refused(&messages(alloc, &source.name, bytes, faults, Excerpts::All)?);
-    report.hint(hints::faults_hint(options, faults));
+    report.hint(hints::faults_hint(options.sets_no_variables(), &options.placeholders, faults));
     let hint = hints::document_hint(alloc, format, &source.name, bytes, faults)?;
     report.hint(hint.as_deref());
     Ok(())
@@ -53,7 +53,7 @@ pub(crate) fn report_defaults(
     ensures { OnOk result (Raises report.old.worst report.new.worst DONE
         ⊎ Raises report.old.worst report.new.worst REFUSED) }
 {
-    let faults = hints::default_faults(alloc, options, source)?;
+    let faults = hints::default_faults(alloc, options.formats, &options.placeholders, source)?;
     if !faults.is_empty() {
         report.refused(&messages(alloc, &source.name, &source.bytes, &faults, Excerpts::All)?);
     }

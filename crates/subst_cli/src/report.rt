@@ -3,12 +3,12 @@
 ghost use Rattle.std.specs.Prelude.{◌≡◌, ◌==◌, ◌≤◌, OnOk};
 ghost use Rattle.subst_cli.specs.Status.{Raises, status_of, worse};
 
-use crate::hints::UnsetHint;
-use crate::terminal::printable;
 use std::alloc::AllocError;
 use std::collections::HashSet;
 use std::io;
 use std::io::Write;
+use subst_expander::hints::UnsetHint;
+use subst_expander::terminal::printable;
 use subst_filter_lib::status::{DEVICE_FAILED, DONE, OUT_OF_MEMORY, REFUSED, WRONG_ARGUMENTS};
 
 /// The severity of an event, which decides the exit status.

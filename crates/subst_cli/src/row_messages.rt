@@ -1,13 +1,13 @@
 //! Messages for rows that are refused, and hints about the columns of rows.
 
-use crate::entry::Entry;
-use crate::fault::{Cause, Fault, range_of_name};
-use crate::source::{Excerpts, Source, messages};
-use crate::terminal::printable;
 use std::alloc::{AllocError, Global};
 use subst::error::NoSuchVariable;
 use subst::{Error, is_name};
 use subst_error::NoSuchVariableRef;
+use subst_expander::entry::Entry;
+use subst_expander::fault::{Cause, Fault, range_of_name};
+use subst_expander::source::{Excerpts, Source, messages};
+use subst_expander::terminal::printable;
 use subst_rows::columns::{index_of, unmatched};
 use subst_rows::error::RowsError;
 use subst_rows::letter::{Letter, Refusal};

@@ -6,30 +6,31 @@ ghost use Rattle.subst_cli.specs.Files.{OnlyReads};
 ghost use Rattle.subst_cli.specs.Run.{entries_for};
 ghost use Rattle.subst_cli.specs.WholeRun.{HandlesTemplates, IsWholeRun};
 
-use crate::entry::Entry;
-use crate::expansion::{Expander, all_entries, dotenv_entries, uses};
+use crate::entries::{all_entries, dotenv_entries, expander_of};
 use crate::files::Files;
 use crate::input::{display_name, path_in};
-use crate::layers::{Layers, Variables};
 use crate::letters::expand_rows;
-use crate::listing::Listing;
 use crate::one_output::expand_all;
-use crate::options::{Action, Options};
 use crate::per_file::Run;
-use crate::position::Positions;
 use crate::printer::Printer;
 use crate::reading::source;
 use crate::refusals::{report_refused, report_values};
 use crate::report::Report;
-use crate::source::{Refused, Source};
 use crate::templates::{Template, templates};
-use crate::text::split_source;
-use crate::values_file::{ValuesSource, lines_of};
 use crate::writing::print;
-use crate::{environment, hints};
 use std::alloc::{AllocError, Global};
 use std::env::Env;
 use subst::is_name;
+use subst_expander::entry::Entry;
+use subst_expander::expansion::uses;
+use subst_expander::layers::{Layers, Variables};
+use subst_expander::listing::Listing;
+use subst_expander::position::Positions;
+use subst_expander::source::{Refused, Source};
+use subst_expander::text::split_source;
+use subst_expander::values_file::{ValuesSource, lines_of};
+use subst_expander::{environment, hints};
+use subst_options::{Action, Options};
 
 /// Reads the variables, and performs the action of the options unless an error has been reported.
 ///
@@ -83,7 +84,7 @@ fn run_per_file<F: Files>(
     let run = Run {
         alloc,
         options,
-        expander: Expander::of(options, variables),
+        expander: expander_of(options, variables),
     };
     let templates = all_templates(alloc, options, files, report)?;
     match options.action {
@@ -399,7 +400,7 @@ fn list_source(
     listing: &mut Listing,
     report: &mut Report<'_>,
 ) -> Result<(), AllocError> {
-    match uses(alloc, &source, options)? {
+    match uses(alloc, &source, options.formats, &options.placeholders)? {
         Ok(uses) => {
             let format = options.formats.format_of(&source.path);
             let (_, filled) = split_source(format, &source.bytes);

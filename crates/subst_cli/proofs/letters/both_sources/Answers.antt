@@ -1,5 +1,4 @@
 -- Both files were read, one after the other.
-use Rattle.std.proofs.Common.{arith, refl}
 use Rattle.subst_cli.proofs.ReadLemmas.{reads_then}
 use Rattle.subst_cli.proofs.LetterLemmas.{second_unread}
 use Rattle.subst_cli.proofs.letters.both_sources.Goals as goal

@@ -1,5 +1,5 @@
 -- No entry so far has the name.
-use Rattle.std.proofs.Common.{◌≡◌, arith, false, refl, sym, true}
+use Rattle.std.proofs.Common.{◌≡◌, arith, false, refl, true}
 use Rattle.std.specs.Str.{bytes_eq}
 use Rattle.subst_cli.proofs.LetterLemmas.{value_after, value_here, value_none}
 use Rattle.subst_cli.proofs.letters.value_of.Goals as goal

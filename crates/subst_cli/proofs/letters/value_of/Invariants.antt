@@ -1,6 +1,6 @@
 -- No entry so far has the name.
 use Rattle.std.proofs.Common.{◌≡◌, drop}
-use Rattle.subst_cli.specs.Layers.{entries_of, look_up_in}
+use Rattle.subst_expander.specs.Layers.{entries_of, look_up_in}
 use Rattle.subst_cli.proofs.letters.value_of.Given as goal
 
 abbrev pub invariant-loop-entry : goal.invariant-loop-entry

@@ -21,23 +21,24 @@ returns-in_err-templates g c =
 
 pub returns-in-WriteInto : goal.returns-in-WriteInto
 returns-in-WriteInto g c =
-    let are = variables_for c.of-2.result.variables _ c.in_ok-entries.entries.items _ c.of-2.ensures.variables
-    c.deref.ensures.value c.in_ok-variables.ensures.variables in
-    each_written c.args.options.now _ c.write_each.result c.of-2.result _ _ c.in_ok-entries.ensures are
-    c.of-2.ensures.formats c.of-2.ensures.placeholders _ _ _ _ _ c.in-WriteInto.directory c.in-WriteInto.is
-    c.write_each.ensures.written
+    let are = variables_for c.expander_of.result.variables _ c.in_ok-entries.entries.items _
+    c.expander_of.ensures.variables c.deref.ensures.value c.in_ok-variables.ensures.variables in
+    each_written c.args.options.now _ c.write_each.result c.expander_of.result _ _ c.in_ok-entries.ensures are
+    c.expander_of.ensures.formats c.expander_of.ensures.placeholders _ _ _ _ _ c.in-WriteInto.directory
+    c.in-WriteInto.is c.write_each.ensures.written
 
 pub returns-in-Replace : goal.returns-in-Replace
 returns-in-Replace g c =
-    let are = variables_for c.of-2.result.variables _ c.in_ok-entries.entries.items _ c.of-2.ensures.variables
-    c.deref.ensures.value c.in_ok-variables.ensures.variables in
-    each_replaced c.args.options.now _ c.replace_each.result c.of-2.result _ _ c.in_ok-entries.ensures are
-    c.of-2.ensures.formats c.of-2.ensures.placeholders _ _ _ _ _ c.in-Replace.is c.replace_each.ensures.replaced
+    let are = variables_for c.expander_of.result.variables _ c.in_ok-entries.entries.items _
+    c.expander_of.ensures.variables c.deref.ensures.value c.in_ok-variables.ensures.variables in
+    each_replaced c.args.options.now _ c.replace_each.result c.expander_of.result _ _ c.in_ok-entries.ensures are
+    c.expander_of.ensures.formats c.expander_of.ensures.placeholders _ _ _ _ _ c.in-Replace.is
+    c.replace_each.ensures.replaced
 
 pub returns : goal.returns
 returns g c =
-    let are = variables_for c.of-2.result.variables _ c.in_ok-entries.entries.items _ c.of-2.ensures.variables
-    c.deref.ensures.value c.in_ok-variables.ensures.variables in
-    each_checked {E = AllocError} c.args.options.now _ (Ok tt) c.of-2.result _ _ c.in_ok-entries.ensures are
-    c.of-2.ensures.formats c.of-2.ensures.placeholders _ _ _ _ _ c.in_default.not-WriteInto
+    let are = variables_for c.expander_of.result.variables _ c.in_ok-entries.entries.items _
+    c.expander_of.ensures.variables c.deref.ensures.value c.in_ok-variables.ensures.variables in
+    each_checked {E = AllocError} c.args.options.now _ (Ok tt) c.expander_of.result _ _ c.in_ok-entries.ensures are
+    c.expander_of.ensures.formats c.expander_of.ensures.placeholders _ _ _ _ _ c.in_default.not-WriteInto
     c.in_default.not-Replace c.check_each.ensures.checked

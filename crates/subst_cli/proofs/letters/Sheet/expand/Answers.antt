@@ -1,7 +1,7 @@
 -- The letter has the template, the rows' text and the values.
 use Rattle.std.proofs.Common.{refl}
 use Rattle.subst_cli.proofs.LetterLemmas.{sheet_run, sheet_values}
-use Rattle.subst_cli.specs.Layers.{look_up_in}
+use Rattle.subst_expander.specs.Layers.{look_up_in}
 use Rattle.subst_cli.specs.Run.{first_for, rest_for}
 use Rattle.subst_cli.proofs.letters.Sheet.expand.Goals as goal
 

@@ -1,7 +1,7 @@
 -- The templates so far are checked.
 use Rattle.std.proofs.Common.{List, take}
 use Rattle.subst_cli.proofs.RunLemmas.{HasChecked}
-use Rattle.subst_cli.specs.Layers.{AreVariablesOf, Entry}
+use Rattle.subst_expander.specs.Layers.{AreVariablesOf, Entry}
 use Rattle.subst_cli.specs.Status.{status_of}
 use Rattle.subst_cli.proofs.per_file.Run.check_each.Given as goal
 

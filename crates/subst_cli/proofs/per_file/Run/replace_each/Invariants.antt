@@ -1,7 +1,7 @@
 -- The templates so far are replaced.
 use Rattle.std.proofs.Common.{List, take}
 use Rattle.subst_cli.proofs.RunLemmas.{HasReplaced}
-use Rattle.subst_cli.specs.Layers.{AreVariablesOf, Entry}
+use Rattle.subst_expander.specs.Layers.{AreVariablesOf, Entry}
 use Rattle.subst_cli.specs.Status.{status_of}
 use Rattle.subst_cli.proofs.per_file.Run.replace_each.Given as goal
 

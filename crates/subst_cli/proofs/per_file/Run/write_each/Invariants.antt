@@ -2,7 +2,7 @@
 use Rattle.std.proofs.Common.{◌≡◌, ℕ, List, take}
 use Rattle.std.specs.HashSet.{contains_text}
 use Rattle.subst_cli.proofs.RunLemmas.{HasWritten}
-use Rattle.subst_cli.specs.Layers.{AreVariablesOf, Entry}
+use Rattle.subst_expander.specs.Layers.{AreVariablesOf, Entry}
 use Rattle.subst_cli.specs.Status.{status_of}
 use Rattle.subst_cli.specs.Written.{is_taken}
 use Rattle.subst_cli.proofs.per_file.Run.write_each.Given as goal

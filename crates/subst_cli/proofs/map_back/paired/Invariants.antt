@@ -1,6 +1,0 @@
--- The pairs so far are in the map.
-use Rattle.subst_cli.specs.MapBack.{ArePaired}
-use Rattle.subst_cli.proofs.map_back.paired.Given as goal
-
-abbrev pub invariant-loop-variable : goal.invariant-loop-variable
-invariant-loop-variable l = ArePaired l.yielded l.counterparts

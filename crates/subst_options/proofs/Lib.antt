@@ -1,0 +1,4 @@
+pub mod ArgumentLemmas
+pub mod CommandLemmas
+pub mod ParsedLemmas
+pub mod WorkedExamples

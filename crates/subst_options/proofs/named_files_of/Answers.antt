@@ -1,0 +1,10 @@
+-- The files are those of all arguments.
+use Rattle.subst_options.proofs.ArgumentLemmas.{all_pairs}
+use Rattle.subst_options.specs.Arguments.{borrowed_pair}
+use Rattle.subst_options.proofs.named_files_of.Goals as goal
+
+pub returns : goal.returns
+returns c =
+    all_pairs borrowed_pair c.in_ok-arguments.arguments.items c.deref-argument-items.result.now
+    c.loop-argument.argument-index c.loop-argument.files.items _ c.deref-argument-items.ensures.value
+    c.loop-argument-test.false c.loop-argument.invariant c.in_ok-arguments.ensures
