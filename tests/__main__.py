@@ -1,24 +1,29 @@
 """Runs the tests. The last line is 'N passed, M failed', with ', K skipped' if some were.
 
-Without --proved, runs the tests that need no proof. With it, runs the gate: `rt ci`; one more proof, over which all
-that follows is built, as `rt ci` keeps nothing; the must-fail edits of crates that changed since all of theirs were
-refused, or all edits; and the tests of built programs, several files side by side. With names, as test_files,
-test_files.Output or test_files.Output.test_output, runs these alone, with --proved those of built programs. The
-processor seconds of each part are printed at the end.
+Without --proved, runs the tests that need no proof. With it, runs the gate: `rt ci`, and beside it one more proof, over
+which all that follows is built, as `rt ci` keeps nothing; the must-fail edits of crates that changed since all of
+theirs were refused, or all edits; and the tests of built programs, several files side by side. With names, as
+test_files, test_files.Output or test_files.Output.test_output, runs these alone, with --proved those of built programs.
+The processor seconds of each part are printed at the end.
 """
 import argparse
 import collections
 import concurrent.futures
 import os
+import pathlib
 import re
 import resource
+import shutil
 import signal
 import subprocess
 import sys
+import tempfile
 import unittest
 
 from tests.support import SEED, TOP, Built, Tried
 
+# The highest libraries of the programs and of the library for C.
+LIBRARIES = 'subst_c', 'subst_filter_lib', 'subst_options'
 COUNTS = re.compile(r'(\d+) passed, (\d+) failed(?:, (\d+) skipped)?$')
 
 
@@ -80,6 +85,24 @@ def command(*words):
     return passed, max(failed, 1) * [' '.join(words)] if is_failed else [], skipped
 
 
+def proofs(lanes):
+    """Runs `rt ci`, and beside it, in half of the lanes, tools/prove.py over the libraries in a copy of the tree. In the
+    end their kept work is moved here, as nothing may change in the tree while `rt ci` runs."""
+    with tempfile.TemporaryDirectory() as folder:
+        copy = pathlib.Path(folder, 'copy')
+        shutil.copytree(TOP, copy, ignore=shutil.ignore_patterns('.git', 'out'))
+        with subprocess.Popen([sys.executable, copy / 'tools/prove.py', *LIBRARIES], stdin=subprocess.DEVNULL,
+                              stdout=subprocess.DEVNULL, env={**os.environ, 'RT_JOBS': str(max(1, lanes // 2))}):
+            os.environ['RT_JOBS'] = str(max(1, lanes - 1))
+            result = command('rt', 'ci')
+        os.environ['RT_JOBS'] = str(lanes)
+        for out in copy.glob('crates/*/out'):
+            kept = TOP / out.relative_to(copy)
+            shutil.rmtree(kept, ignore_errors=True)
+            shutil.move(out, kept)
+    return result
+
+
 def cases(suite):
     """Runs tests of unittest."""
     result = unittest.TextTestRunner(sys.stdout, resultclass=Result).run(suite)
@@ -134,7 +157,7 @@ def main():
     os.environ.setdefault('RT_JOBS', str(lanes()))
     print(f'SEED={SEED}')
     if options.proved and not options.names:
-        totals.run('rt ci', command, 'rt', 'ci')
+        totals.run('rt ci', proofs, int(os.environ['RT_JOBS']))
         totals.run('tools/prove.py', command, sys.executable, 'tools/prove.py')
         totals.run('tools/edits.py', command, sys.executable, 'tools/edits.py', *['--all'] * options.all)
     names = options.names or sorted(path.stem for path in (TOP / 'tests').glob('test_*.py'))
