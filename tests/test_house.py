@@ -1,5 +1,5 @@
 """Rules for the repository's own files: widths and sizes, names, blocks and numbers of pages, the claims of proof in
-README.md, facts in few files, and citations of lemmas. No file is run.
+docs/PROVED.md, facts in few files, and citations of lemmas. No file is run.
 """
 import collections
 import fnmatch
@@ -16,11 +16,11 @@ from building import TOP, version
 # The most columns of a line of code or of a definition, of a clause, of a comment, and of a page.
 CODE, CLAUSE, COMMENT, PROSE = 116, 100, 110, 120
 # The most lines of pages; the last pattern is for each decision.
-LINES = {'README.md': 172, 'docs/DESIGN.md': 160, 'docs/DEFINITIONS.md': 200, 'docs/CALLING.md': 225,
+LINES = {'README.md': 150, 'docs/DESIGN.md': 160, 'docs/DEFINITIONS.md': 200, 'docs/CALLING.md': 225,
          'docs/CONTRIBUTING.md': 200, 'docs/decisions/[0-9]*.md': 40}
-# The most words of README.md and of the pages that are no decisions, lines of code, of definitions and proofs, and of
-# scripts, and crates; the patterns of scripts, and the ends of other files' names beside them.
-SIZES = {'words of pages': 16200, '.rt': 51000, '.antt': 56400, 'scripts': 18700, 'crates': 28}
+# The most words of README.md and of all pages in docs, lines of code, of definitions and proofs, and of scripts, and
+# crates; the patterns of scripts, and the ends of other files' names beside them.
+SIZES = {'words of pages': 15000, '.rt': 51000, '.antt': 56400, 'scripts': 18700, 'crates': 28}
 SCRIPTS = ('tools/*', 'tests/[!d]*', 'fuzz/*', 'python/*', 'benches/*')
 NO_SCRIPTS = ('.rt', '.antt', '.md', '.svg', '.tsv', '.txt', 'args', 'stdin', 'stdout')
 # The most files with an option of subst, and with the text of a fault.
@@ -29,8 +29,8 @@ OPTION_FILES, FAULT_FILES = 11, 12
 QUOTING = 'docs/CALLING.md'
 # The tests of blocks that are neither quoted nor run by tests/test_pages.py, by page and language. A test names its
 # page.
-TRIED = (('README.md', ['rust'], 'tests/test_other_repository.py'),
-         ('docs/C.md', ['c', 'python'], 'tests/test_pages.py'), ('docs/MEMORY.md', ['text'], 'tests/test_memory.py'),
+TRIED = (('docs/RATTLE.md', ['rust'], 'tests/test_other_repository.py'),
+         ('docs/C.md', ['c', 'python'], 'tests/test_pages.py'),
          ('docs/RUST.md', ['toml', 'rust'], 'tests/test_rust.py'),
          ('docs/LETTERS.md', ['python'], 'tests/test_python_library.py'),
          ('docs/decisions/*.md', ['rust'], 'tests/test_forms.py'))
@@ -276,7 +276,7 @@ def is_quoted(lines, *patterns):
 def numbers():
     """Yields numbers in pages that other files determine: a page, a pattern, and the numbers that it has to match."""
     names = re.findall(r'^(\w+)', read('crates.txt'), re.MULTILINE)
-    yield 'README.md', r'first (\w+) crates', [NUMBERS[names.index('subst') - names.index('subst_error') + 1]]
+    yield 'docs/RATTLE.md', r'first (\w+) crates', [NUMBERS[names.index('subst') - names.index('subst_error') + 1]]
     for path in matching(f'{DATA}/*.tsv'):
         records = [line for line in read(path).split('\n') if line and not line.startswith('#')]
         yield f'{DATA}/README.md', rf'`{os.path.basename(path)}` \| ([\d,]+) \|', [f'{len(records):,}']
@@ -292,7 +292,16 @@ def numbers():
 # Claims of proof
 
 # A link to a function, and the names of its clauses; without a name its clause has none.
-PROVED_BY = re.compile(r'\[`(\w+)`\]\((crates/[\w/]+\.rt)\)((?: `\w+`,?)*)')
+PROVED_BY = re.compile(r'\[`(\w+)`\]\((?:\.\./)?(crates/[\w/]+\.rt)\)((?: `\w+`,?)*)')
+
+
+def claims():
+    """Yields the claims, each with its page and line: rows of the table of all, and the items of README.md in brief."""
+    brief = re.search(r'(?<=\n## What is proved\n).*?(?=\n## )', read('README.md'), re.DOTALL)
+    table = re.search(r'(?<=\n\|---\|---\|\n).*?(?=\n\n)', read('docs/PROVED.md'), re.DOTALL)
+    for path, part, claim in (('README.md', brief, r'^- .*\n(?:  .*\n)*'), ('docs/PROVED.md', table, r'^\|.*')):
+        for match in re.finditer(claim, part[0], re.MULTILINE):
+            yield f'{path}:{line_at(read(path), part.start() + match.start())}', ' '.join(match[0].split())
 
 
 def clauses(path, name):
@@ -496,14 +505,9 @@ class House(unittest.TestCase):
                 yield f'{path}: it says {found and found[0]}, and it is {", ".join(wanted)}'
 
     @gives_nothing
-    def test_what_readme_says_is_proved_is_in_clauses(self):
-        text = read('README.md')
-        begin = text.index('\n## What is proved\n')
-        rows = list(re.finditer(r'^\|(?! What |---).*', text[begin:text.index('\n## ', begin + 1)], re.MULTILINE))
-        if not rows:
-            yield 'README.md: there is no table of what is proved'
-        for row in rows:
-            where, links = f'README.md:{line_at(text, begin + row.start())}', PROVED_BY.findall(row[0])
+    def test_what_pages_say_is_proved_is_in_clauses(self):
+        for where, claim in claims():
+            links = PROVED_BY.findall(claim)
             if not links:
                 yield f'{where}: it names no function whose clause says this'
             for name, path, labels in links:

@@ -1,16 +1,16 @@
-"""The requests for memory of each call and their bytes, as in docs/MEMORY.md, and the behaviour of calls without
-memory.
+"""The requests for memory of each call and their bytes, as in tests/data/requests.txt, and the behaviour of calls
+without memory.
 
 The program subst_memory_tests makes each call between a line 'call: NAME' and a line 'end of call'. Before and after
 it, lines that begin with 'borrowed' show all that the call borrows; its answer is in between. With no request refused,
 the output has to be the stored one, and the calls that make requests, the numbers of these and their bytes have to be
-those of docs/MEMORY.md. Then each request of each call is refused in a run of its own.
+those of that file. Then each request of each call is refused in a run of its own.
 
 Each such run has to print the stored output too, with one exception: a call that is out of memory reports it right
 after its end, and shows that what it borrows is unchanged. The same call with memory then has to return its answer. A
 call that makes requests has to be out of memory in at least one run.
 
-`python3 -m tests.test_memory` prints the rows of the page for the calls that allocate.
+`python3 -m tests.test_memory` prints the lines of that file.
 """
 import functools
 import os
@@ -22,11 +22,10 @@ from tests.support import Built, preloading, run
 
 PROGRAM = 'subst_memory_tests'
 STORED = (CRATES / PROGRAM / 'stdout').read_text(encoding='utf-8').splitlines()
-PAGE = (TOP / 'docs/MEMORY.md').read_text(encoding='utf-8')
-BLOCK = re.search(r'^```text\n(.*?)^```$', PAGE, re.MULTILINE | re.DOTALL)[1]
+LISTED = (TOP / 'tests/data/requests.txt').read_text(encoding='utf-8')
 # Each call that makes requests, with their number and their bytes.
 TABLE = {name: (int(count), int(size)) for name, count, size in
-         re.findall(r'^(.*\S) +(\d+) +(\d+)$', BLOCK, re.MULTILINE)}
+         re.findall(r'^(.*\S) +(\d+) +(\d+)$', LISTED, re.MULTILINE)}
 # Lines of the library about a request, and of the program about a call.
 REQUEST, CALL, END, LENT, OUT_OF_MEMORY = 'request ', 'call: ', 'end of call', 'borrowed', 'out of memory'
 
@@ -87,7 +86,7 @@ class Memory(Built):
     def test_calls_give_what_is_stored(self):
         self.assertEqual(calls()[0], STORED)
 
-    def test_each_call_makes_the_requests_of_the_page(self):
+    def test_each_call_makes_the_listed_requests(self):
         self.assertEqual({name: (it.count, it.size) for name, it in calls()[1].items() if it.count}, TABLE)
 
     def assert_request_is_refused(self, name):

@@ -1,9 +1,9 @@
-"""The library in a repository of its own, as in README.md. A program there runs, unproved, the examples of README.md,
-of the map and the loader of docs/CALLING.md, and of the library's comments.
+"""The library in a repository of its own, as in docs/RATTLE.md. A program there runs, unproved, the examples of that
+page, of the map and the loader of docs/CALLING.md, and of the library's comments.
 
 An example is a Rust block in a `///` comment of a crate of the library. It computes an `output`, which is an `Option`
 of a document that is filled in in place, and its last line is a comment with the text of that. The first examples are
-the functions of README.md, the environment as README.md reads it, and the map and the loader of docs/CALLING.md.
+the functions of docs/RATTLE.md, the environment as that page reads it, and the map and the loader of docs/CALLING.md.
 """
 import json
 import pathlib
@@ -32,7 +32,7 @@ mod guest;
 mod loader;
 
 '''
-# The first lines of a `main` that expands from the environment, as in README.md.
+# The first lines of a `main` that expands from the environment, as in docs/RATTLE.md.
 FROM_ENVIRONMENT = '''    let alloc = rt.alloc();
     let variables = %s;
     println!(rt; "{}", substitute(alloc, "Hello ${GREETED:world}!", &variables)?)?;
@@ -43,7 +43,7 @@ fn from_guest(alloc: Global) -> Result<String, Error> {
     substitute(alloc, "Hello $name!", &Guest { name: "world" })
 }
 '''
-# The imports of the loader of docs/CALLING.md, and the code that reads servers by README.md and by the loader.
+# The imports of the loader of docs/CALLING.md, and the code that reads servers by docs/RATTLE.md and by the loader.
 LOADER = '''//! The loader of docs/CALLING.md.
 
 use serde::DeserializeOwned;
@@ -123,10 +123,11 @@ def function(number, crate, lines):
 def program():
     of_comments = [function(number, crate, lines) for number, (crate, lines, _) in enumerate(examples())]
     calls = ['greet', 'from_guest', *(f'example_{number}' for number in range(len(of_comments)))]
-    prints = FROM_ENVIRONMENT % found('README.md', r'`(Env::from_pairs\([^`]*)`') + READ
+    prints = FROM_ENVIRONMENT % found('docs/RATTLE.md', r'`(Env::from_pairs\([^`]*)`') + READ
     prints += ''.join(f'    println!(rt; "{{}}", {call}(alloc)?)?;\n' for call in calls)
     main = f'\nfn main(rt: HostRuntime) -> anyhow::Result<()> {{\n{prints}    Ok(())\n}}\n'
-    return ''.join([HEAD, found('README.md', r'^```rust\n(.*?)^```$'), FROM_GUEST, FROM_LOADER, *of_comments, main])
+    block = found('docs/RATTLE.md', r'^```rust\n(.*?)^```$')
+    return ''.join([HEAD, block, FROM_GUEST, FROM_LOADER, *of_comments, main])
 
 
 def own_map():

@@ -48,7 +48,6 @@ HIDDEN = {
     'subst_cli/src/process.rt': '',
     'subst_expander/': 'it is there for `subst_cli`',
     'subst_expander/src/expansion.rt': '',
-    'subst_expander/src/values_file.rt': '',
     'subst_options/src/table.rt': 'it is there for `subst_cli`',
 }
 # The beginning of an item: its margin, its visibility, its kind, and its name.
