@@ -1,5 +1,5 @@
-//! Makes each call of `docs/MEMORY.md`. `tests/test_memory.py` runs this program, and makes each allocation
-//! of the calls fail in turn. The program itself checks nothing.
+//! Makes each call of `tests/data/requests.txt`. `tests/test_memory.py` runs this program, and makes each
+//! allocation of the calls fail in turn. The program itself checks nothing.
 #![tactic(auto)]
 
 mod bytes;
